@@ -1,5 +1,5 @@
 -- What the listing of an answer asks, and its text. Only the contracts between workers need this file. Definitions only.
-use Rattle.std.specs.Prelude.{ℕ, ◌*◌, ◌/◌, ◌≤◌, ◌≡◌, Bool, true, List, length, Float}
+use Rattle.std.specs.Prelude.{ℕ, ◌*◌, ◌/◌, ◌≤◌, ◌≡◌, Bool, true, List, length, Float, Result, Ok, Err}
 use Rattle.lists.specs.Lists.{any, all}
 use Rattle.model.specs.Mesh.{Triangle, Edge}
 use Rattle.model.specs.Valid.{corners_ok, ends_ok}
@@ -10,8 +10,9 @@ use Rattle.mesh.specs.Log.{log_at}
 use Rattle.mesh.specs.declared.Counts.{Counts}
 use Rattle.elements.specs.Table.{elements_in}
 use Rattle.call_frame.specs.declared.Answer.{Answer}
-use Rattle.call_frame.specs.declared.Answer.TheVariants.{Refused, Done}
 use Rattle.listing.specs.Listing.{listing_bytes, refused_bytes}
+use Rattle.mesh.specs.declared.refusals.Refusal.{Refusal}
+use Rattle.mesh.specs.Refused.{number_of}
 
 -- the pieces of triangles and edges: `pieces` reads no more of a mesh
 unfoldable pub pieces_in : List Triangle → List Edge → ℕ
@@ -30,11 +31,11 @@ pub record Countable (k : Counts) (c : List ℕ) (v : List Float) (e : List ℕ)
   pub edge_names : all (ends_ok k.particles) (edges_at k.edges e l) ≡ true
 
 -- what is asked for the listing of an answer: of counts, that the blocks hold so many rows, and few log entries
-abbrev pub Listable : Answer → List ℕ → List Float → List ℕ → List Float → ℕ → Type 0
-Listable (Refused n) c v e l g = Unit {0}
-Listable (Done k changed) c v e l g = Countable k c v e l × (6 * k.log ≤ g) × (k.log ≤ 640)
+abbrev pub Listable : Result Answer Refusal → List ℕ → List Float → List ℕ → List Float → ℕ → Type 0
+Listable (Err d) c v e l g = Unit {0}
+Listable (Ok a) c v e l g = Countable a.counts c v e l × (6 * a.counts.log ≤ g) × (a.counts.log ≤ 640)
 
 -- the text of an answer, from the blocks that it goes with, with the line of a replaced outline or without
-abbrev pub text_of : Bool → Answer → List ℕ → List Float → List ℕ → List Float → List ℕ → List ℕ
-text_of replaced (Refused n) c v e l g = refused_bytes n
-text_of replaced (Done k changed) c v e l g = listing_bytes replaced (log_at k.log g) k.particles (pieces_in (triangles_at k.triangles c v) (edges_at k.edges e l))
+abbrev pub text_of : Bool → Result Answer Refusal → List ℕ → List Float → List ℕ → List Float → List ℕ → List ℕ
+text_of replaced (Err d) c v e l g = refused_bytes (number_of d)
+text_of replaced (Ok a) c v e l g = listing_bytes replaced (log_at a.counts.log g) a.counts.particles (pieces_in (triangles_at a.counts.triangles c v) (edges_at a.counts.edges e l))

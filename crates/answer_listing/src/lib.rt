@@ -7,8 +7,8 @@ ghost use Rattle.listing.specs.Answers.{Told};
 ghost use Rattle.answer_listing.specs.Listed.{pieces_in, Countable, Listable, text_of};
 
 use call_frame::Answer;
-use listing::Written;
 use mesh::Counts;
+use mesh::refusals::Refusal;
 
 // How many pieces the triangles and edges at the fronts of blocks make.
 fn count_pieces(
@@ -59,21 +59,22 @@ fn count_pieces(
 // Writes the listing of an answer that goes with the blocks, with the line of a replaced outline or without, or the line of its refusal.
 pub fn list_answer(
     replaced: bool,
-    a: Answer,
+    a: Result<Answer, Refusal>,
     corners: &[usize],
     volumes: &[f32],
     ends: &[usize],
     lengths: &[f32],
     log: &[u32],
     out: &mut [u8],
-) -> Written
+) -> Option<usize>
     requires { Listable a corners.now volumes.now ends.now lengths.now (length log.now) }
     ensures { Told (text_of replaced a corners.now volumes.now ends.now lengths.now
         log.now) (length out.old) out.new result }
 {
     match a {
-        Answer::Refused(n) => listing::write_refused(n, out),
-        Answer::Done(k, changed) => {
+        Err(e) => listing::write_refused(e.number(), out),
+        Ok(answer) => {
+            let k = answer.counts;
             let found = count_pieces(k, corners, volumes, ends, lengths);
             listing::write_listing(replaced, k.log, log, k.particles, found, out)
         }

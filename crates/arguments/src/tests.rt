@@ -2,10 +2,12 @@
 ghost use Rattle.std.specs.Prelude.{◌≡◌, ◌&&◌, eqb, ltb, length};
 ghost use Rattle.lists.specs.Lists.{all};
 ghost use Rattle.model.specs.Calls.{strictly, point_ok, fraction_ok};
+ghost use Rattle.mesh.specs.Refused.{refusal_in};
 ghost use Rattle.arguments.specs.Beside.{with_numbers_of};
 
 use blade::Point;
 use judge::tests;
+use mesh::refusals::Refusal;
 
 // Are both numbers of a point in range?
 pub fn point_fits(p: Point) -> bool
@@ -22,25 +24,29 @@ pub fn fraction_fits(f: f32) -> bool
 }
 
 // The fault of a mesh and of the numbers beside it: bad ones refuse with 2, behind 1 and before 3.
-pub fn with_numbers(fault: usize, ok: bool) -> usize
-    ensures { result ≡ with_numbers_of fault ok }
+pub fn with_numbers(fault: Result<(), Refusal>, ok: bool) -> Result<(), Refusal>
+    ensures { refusal_in result ≡ with_numbers_of (refusal_in fault) ok }
 {
     if ok {
         return fault;
     }
-    if fault == 1 { 1 } else { 2 }
+    let Err(e) = fault else {
+        return Err(Refusal::Number);
+    };
+    match e {
+        Refusal::Size => fault,
+        _ => Err(Refusal::Number),
+    }
 }
 
 // Is each number of a list below n?
 pub fn all_below(n: usize, list: &[usize]) -> bool
     ensures { result ≡ all (λ x. ltb x n) list.now }
 {
-    let mut i: usize = 0;
-    while i < list.len() {
-        if list[i] >= n {
+    for &x in list {
+        if x >= n {
             return false;
         }
-        i += 1;
     }
     true
 }
@@ -49,12 +55,10 @@ pub fn all_below(n: usize, list: &[usize]) -> bool
 pub fn rising(list: &[usize]) -> bool
     ensures { result ≡ strictly list.now }
 {
-    let mut i: usize = 0;
-    while i + 1 < list.len() {
-        if list[i + 1] <= list[i] {
+    for i in 1..list.len() {
+        if list[i] <= list[i - 1] {
             return false;
         }
-        i += 1;
     }
     true
 }

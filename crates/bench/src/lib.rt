@@ -1,4 +1,4 @@
-// The public entries that give a mesh. Each checks for itself, answers a refusal number (docs/RULES.md, R3), and never touches the mesh it reads. (Crate readings has those that read.)
+// The public entries that give a mesh. Each checks for itself, refuses by a `Refusal` (docs/RULES.md, R3), and never touches the mesh it reads. (Crate readings has those that read.)
 #![tactic(auto)]
 
 pub mod tearing;

@@ -9,6 +9,7 @@ ghost use Rattle.mesh.specs.Blocks.{lent_before, given_before};
 
 use blade::Point;
 use call_frame::Answer;
+use mesh::refusals::Refusal;
 use mesh_calls::Job;
 
 // A job answered: done in the lent blocks, unless it is refused, and 0 left behind what it gives.
@@ -30,7 +31,7 @@ fn answer_job(
     lengths: &mut [f32],
     outline: &mut [usize],
     log: &mut [u32],
-) -> Answer
+) -> Result<Answer, Refusal>
     ensures { let G = given_before in_points in_roots in_corners in_volumes in_ends in_lengths in_outline in
         let L = lent_before points roots corners volumes ends lengths outline log in
         Answered (job_call job list.now (sizes_fit_of G) (mesh_of G) (as_rooms (rooms_of L))) L result points.new
@@ -73,7 +74,7 @@ pub fn straddlers(
     lengths: &mut [f32],
     outline: &mut [usize],
     log: &mut [u32],
-) -> Answer
+) -> Result<Answer, Refusal>
     ensures { let G = given_before in_points in_roots in_corners in_volumes in_ends in_lengths in_outline in
         let L = lent_before points roots corners volumes ends lengths outline log in
         Answered (straddlers_call (sizes_fit_of G) (mesh_of G) (as_rooms (rooms_of L))) L result points.new roots.new
@@ -120,7 +121,7 @@ pub fn split(
     lengths: &mut [f32],
     outline: &mut [usize],
     log: &mut [u32],
-) -> Answer
+) -> Result<Answer, Refusal>
     ensures { let G = given_before in_points in_roots in_corners in_volumes in_ends in_lengths in_outline in
         let L = lent_before points roots corners volumes ends lengths outline log in
         Answered (split_call (sizes_fit_of G) (mesh_of G) v sides.now (as_rooms (rooms_of L))) L result points.new
@@ -170,7 +171,7 @@ pub fn cut(
     lengths: &mut [f32],
     outline: &mut [usize],
     log: &mut [u32],
-) -> Answer
+) -> Result<Answer, Refusal>
     ensures { let G = given_before in_points in_roots in_corners in_volumes in_ends in_lengths in_outline in
         let L = lent_before points roots corners volumes ends lengths outline log in
         Answered (cut_call (sizes_fit_of G) (mesh_of G) edition (record { from = b0; to = b1 }) f (as_rooms (rooms_of L))) L result points.new
@@ -225,7 +226,7 @@ pub fn crack(
     lengths: &mut [f32],
     outline: &mut [usize],
     log: &mut [u32],
-) -> Answer
+) -> Result<Answer, Refusal>
     ensures { let G = given_before in_points in_roots in_corners in_volumes in_ends in_lengths in_outline in
         let L = lent_before points roots corners volumes ends lengths outline log in
         Answered (crack_call (sizes_fit_of G) (mesh_of G) torn.now minimum (as_rooms (rooms_of L))) L result points.new

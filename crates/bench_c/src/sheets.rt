@@ -42,7 +42,10 @@ pub fn bench_sheet_close(reader: &mut [u8], out: &mut [u8]) -> u32
 pub fn bench_sheet_write(fields: &[u8], out: &mut [u8]) -> u32
     ensures { SheetWritten fields.now out.old out.new result }
 {
-    sheet_c::writing::write_sheet(fields, out)
+    match sheet_c::writing::write_sheet(fields, out) {
+        Ok(()) => 0,
+        Err(e) => e.number() as u32,
+    }
 }
 
 // A broken sheet mended: the mended sheet, what is said, and how many bytes each has.

@@ -6,6 +6,7 @@ ghost use Rattle.image.specs.Image.{image_of, image_sized_of};
 ghost use Rattle.job_replies.specs.Outcomes.{OutcomeReplied, with_rooms};
 ghost use Rattle.bench_c.specs.Torn.{rooms_in_of, split_outcome, straddlers_outcome};
 
+use mesh::refusals::Refusal;
 use mesh_calls::Job;
 
 // A job on an image, with the rooms of four words. Other rooms are bad ones.
@@ -26,7 +27,7 @@ pub fn reply_job(
         let room = call_words::rooms_in(rooms, log.len());
         return job_replies::sizes::reply_sized(job, list, room, bytes, rooms, out, log);
     }
-    mesh_replies::outcome::refuse(mesh::refusals::SIZE, out, log)
+    mesh_replies::outcome::refuse(Refusal::Size.number(), out, log)
 }
 
 // The straddlers across the pieces of a mesh image removed. The job looks at no list.

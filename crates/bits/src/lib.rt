@@ -7,13 +7,6 @@ ghost use Rattle.bits.specs.Bits.{bits, bits_of, field_at};
 ghost use Rattle.bits.specs.Rows.{pack, write_rows, column_at, rows_of};
 ghost use Rattle.bits.specs.Places.{Inside, Power, ColumnIn, RowIn, TableIn, FourIn};
 
-// A byte as a number.
-fn wide(x: u8) -> usize
-    ensures { (result ≡ x) × (result < 256) }
-{
-    x as usize
-}
-
 // 2 to the k.
 fn pow2(k: usize) -> usize
     requires { k < 12 }
@@ -29,7 +22,7 @@ fn bit(s: &[u8], at: usize) -> usize
 {
     let q = at / 8;
     let p = pow2(7 - at % 8);
-    wide(s[q]) / p % 2
+    usize::from(s[q]) / p % 2
 }
 
 // The field of w bits at bit `at`.
@@ -38,10 +31,8 @@ pub fn field(s: &[u8], at: usize, w: usize) -> usize
     ensures { (result ≡ field_at (bits_of s.now) at w) × (result < 2 ^ w) }
 {
     let mut r: usize = 0;
-    let mut k = 0;
-    while k < w {
+    for k in 0..w {
         r = r * 2 + bit(s, at + k);
-        k += 1;
     }
     r
 }
@@ -53,7 +44,7 @@ fn put_bit(s: &mut [u8], at: usize, b: usize)
 {
     let q = at / 8;
     let p = pow2(7 - at % 8);
-    let o = wide(s[q]);
+    let o = usize::from(s[q]);
     let n = (o / p / 2 * 2 + b) * p + o % p;
     s[q] = (n % 256) as u8;
 }
@@ -63,10 +54,8 @@ pub fn put_field(s: &mut [u8], at: usize, w: usize, v: usize)
     requires { Inside s.old at w }
     ensures { bits_of s.new ≡ sets (bits_of s.old) at (bits w v) }
 {
-    let mut k = 0;
-    while k < w {
+    for k in 0..w {
         put_bit(s, at + k, v / pow2(w - (k + 1)) % 2);
-        k += 1;
     }
 }
 
@@ -75,11 +64,9 @@ pub fn read_column(s: &[u8], at: usize, step: usize, w: usize, n: usize, out: &m
     requires { ColumnIn s.now at step w n out.old }
     ensures { out.new ≡ column_at (bits_of s.now) at step w n ++ drop n out.old }
 {
-    let mut i = 0;
     let mut pos = at;
-    while i < n {
+    for i in 0..n {
         out[i] = field(s, pos, w);
-        i += 1;
         pos += step;
     }
 }
@@ -120,11 +107,9 @@ pub fn put_rows(
 {
     let n = a.len();
     let step = w0 + w1 + w2;
-    let mut i = 0;
     let mut pos = at;
-    while i < n {
+    for i in 0..n {
         put_row(s, pos, w0, w1, w2, a[i], b[i], c[i]);
-        i += 1;
         pos += step;
     }
 }
@@ -133,11 +118,7 @@ pub fn put_rows(
 pub fn blank(s: &mut [u8])
     ensures { bits_of s.new ≡ replicate (8 * length s.old) 0 }
 {
-    let mut i = 0;
-    while i < s.len() {
-        s[i] = 0;
-        i += 1;
-    }
+    s.fill(0);
 }
 
 // Writes a row of four fields at bit `at`.

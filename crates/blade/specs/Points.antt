@@ -1,11 +1,9 @@
 -- Points: each operation rounds once, coordinate by coordinate, in the order of the source. Definitions only.
-use Rattle.std.specs.Prelude.{List, length, Float}
+use Rattle.std.specs.Prelude.{List, length, Float, Option, None, Some}
 use Rattle.std.specs.Float.{nan}
 use Rattle.lists.specs.Lists.{fold}
 use Rattle.float.specs.Numbers.{plus, minus, times, over, zero32, one, count32}
 use Rattle.float.specs.Root.{root_of}
-use Rattle.float.specs.declared.root.Rooted.{Rooted}
-use Rattle.float.specs.declared.root.Rooted.TheVariants.{Value, Refused}
 use Rattle.blade.specs.declared.Point.{Point}
 
 abbrev pub origin : Point
@@ -40,9 +38,9 @@ unfoldable pub lerp_of : Point → Point → Float → Point
 lerp_of p q t = plus_of (times_of p (minus one t)) (times_of q t)
 
 -- the rounded root of the dot product with itself. (A NaN where that is not finite, which no accepted mesh reaches.)
-abbrev pub root_value : Rooted → Float
-root_value (Value x) = x
-root_value Refused = nan
+abbrev pub root_value : Option Float → Float
+root_value (Some x) = x
+root_value None = nan
 
 unfoldable pub length_of : Point → Float
 length_of p = root_value (root_of (dot_of p p))

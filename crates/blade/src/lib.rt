@@ -5,7 +5,7 @@ ghost use Rattle.std.specs.Prelude.{◌≡◌, [], ◌∷◌};
 ghost use Rattle.blade.specs.Points.{plus_of, minus_of, times_of, over_of, dot_of, centroid_of, lerp_of, length_of};
 ghost use Rattle.blade.specs.Blade.{offset_of, clamp_high, clamp_low, hit_at_of, cross_at_of, blade_hit_of};
 
-use float::root::Rooted;
+use std::ops::{Add, Div, Mul, Sub};
 
 #[derive(Clone, Copy)]
 pub struct Point {
@@ -13,46 +13,62 @@ pub struct Point {
     pub y: f32,
 }
 
-// A miss, or a hit with the fraction of the edge at which it lies and the point that was tested.
+// A miss, or a hit with the fraction of the edge at which it lies and the point that was tested. (No `Option`: docs/RULES.md, R18.5, has these cases.)
 #[derive(Clone, Copy)]
 pub enum Hit {
     Miss,
     Hit(f32, Point),
 }
 
-pub fn plus(a: Point, b: Point) -> Point
-    ensures { result ≡ plus_of a b }
-{
-    Point {
-        x: a.x + b.x,
-        y: a.y + b.y,
+impl Add for Point {
+    type Output = Point;
+
+    ghost add_gives = { λ a b r. r ≡ plus_of a b };
+
+    fn add(self, b: Point) -> Point {
+        Point {
+            x: self.x + b.x,
+            y: self.y + b.y,
+        }
     }
 }
 
-pub fn minus(a: Point, b: Point) -> Point
-    ensures { result ≡ minus_of a b }
-{
-    Point {
-        x: a.x - b.x,
-        y: a.y - b.y,
+impl Sub for Point {
+    type Output = Point;
+
+    ghost sub_gives = { λ a b r. r ≡ minus_of a b };
+
+    fn sub(self, b: Point) -> Point {
+        Point {
+            x: self.x - b.x,
+            y: self.y - b.y,
+        }
     }
 }
 
-pub fn times(p: Point, k: f32) -> Point
-    ensures { result ≡ times_of p k }
-{
-    Point {
-        x: p.x * k,
-        y: p.y * k,
+impl Mul<f32> for Point {
+    type Output = Point;
+
+    ghost mul_gives = { λ p k r. r ≡ times_of p k };
+
+    fn mul(self, k: f32) -> Point {
+        Point {
+            x: self.x * k,
+            y: self.y * k,
+        }
     }
 }
 
-pub fn over(p: Point, k: f32) -> Point
-    ensures { result ≡ over_of p k }
-{
-    Point {
-        x: p.x / k,
-        y: p.y / k,
+impl Div<f32> for Point {
+    type Output = Point;
+
+    ghost div_gives = { λ p k r. r ≡ over_of p k };
+
+    fn div(self, k: f32) -> Point {
+        Point {
+            x: self.x / k,
+            y: self.y / k,
+        }
     }
 }
 
@@ -68,8 +84,8 @@ pub fn length(v: Point) -> f32
 {
     let r = float::root::root(dot(v, v));
     match r {
-        Rooted::Value(x) => x,
-        Rooted::Refused => 0.0 / 0.0,
+        Some(x) => x,
+        None => 0.0 / 0.0,
     }
 }
 
@@ -77,7 +93,7 @@ pub fn length(v: Point) -> f32
 pub fn lerp(p: Point, q: Point, t: f32) -> Point
     ensures { result ≡ lerp_of p q t }
 {
-    plus(times(p, 1.0 - t), times(q, t))
+    p * (1.0 - t) + q * t
 }
 
 // The middle of a strap: its ends added, from 0, and divided by 2.
@@ -85,7 +101,7 @@ pub fn centroid_of_two(a: Point, b: Point) -> Point
     ensures { result ≡ centroid_of (a ∷ b ∷ []) }
 {
     let start = Point { x: 0.0, y: 0.0 };
-    over(plus(plus(start, a), b), 2.0)
+    (start + a + b) / 2.0
 }
 
 // The middle of a triangle: its corners added, from 0, and divided by 3.
@@ -93,30 +109,23 @@ pub fn centroid_of_three(a: Point, b: Point, c: Point) -> Point
     ensures { result ≡ centroid_of (a ∷ b ∷ c ∷ []) }
 {
     let start = Point { x: 0.0, y: 0.0 };
-    over(plus(plus(plus(start, a), b), c), 3.0)
+    (start + a + b + c) / 3.0
 }
 
 // The offset of v from the blade's line: above 0 to the left of it.
 pub fn offset(b0: Point, b1: Point, v: Point) -> f32
     ensures { result ≡ offset_of b0 b1 v }
 {
-    let d = minus(b1, b0);
+    let d = b1 - b0;
     let n = Point { x: -d.y, y: d.x };
-    dot(n, minus(v, b0))
+    dot(n, v - b0)
 }
 
 // t brought into the range from 0 to 1.
 pub fn clamp(t: f32) -> f32
     ensures { result ≡ clamp_high (clamp_low t) }
 {
-    let mut u = t;
-    if u < 0.0 {
-        u = 0.0;
-    }
-    if u > 1.0 {
-        u = 1.0;
-    }
-    u
+    t.clamp(0.0, 1.0)
 }
 
 fn hit_at(d: Point, b0: Point, p: Point, w: Point, t: f32) -> Hit
@@ -126,7 +135,7 @@ fn hit_at(d: Point, b0: Point, p: Point, w: Point, t: f32) -> Hit
         x: p.x + w.x * t,
         y: p.y + w.y * t,
     };
-    let s = dot(minus(hit, b0), d);
+    let s = dot(hit - b0, d);
     if s >= 0.0 && s <= dot(d, d) {
         return Hit::Hit(t, hit);
     }
@@ -145,9 +154,9 @@ fn cross_at(d: Point, b0: Point, p: Point, w: Point, dp: f32, dq: f32) -> Hit
 pub fn blade_hit(b0: Point, b1: Point, p: Point, q: Point) -> Hit
     ensures { result ≡ blade_hit_of b0 b1 p q }
 {
-    let d = minus(b1, b0);
+    let d = b1 - b0;
     let n = Point { x: -d.y, y: d.x };
-    let dp = dot(n, minus(p, b0));
-    let dq = dot(n, minus(q, b0));
-    cross_at(d, b0, p, minus(q, p), dp, dq)
+    let dp = dot(n, p - b0);
+    let dq = dot(n, q - b0);
+    cross_at(d, b0, p, q - p, dp, dq)
 }

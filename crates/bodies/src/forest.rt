@@ -8,6 +8,7 @@ fn find(parent: &mut [usize], start: usize) -> usize
     ensures { Found parent.old start parent.new result }
 {
     let mut i = start;
+    // Each element tells its parent, up to the root.
     loop {
         let up = parent[i];
         if up == i {
@@ -51,11 +52,9 @@ pub fn flatten(parent: &mut [usize])
     ensures flat { (a : ℕ) → a < length parent.old → get_or parent.new (get_or parent.new a 0) 0
         ≡ get_or parent.new a 0 }
 {
-    let mut i = 0;
-    while i < parent.len() {
+    for i in 0..parent.len() {
         let up = parent[i];
         let next = parent[up];
         parent[i] = next;
-        i += 1;
     }
 }

@@ -15,14 +15,12 @@ fn join_corners(n: usize, k: usize, i: usize, verts: &[usize], parent: &mut [usi
 {
     let at = i * k;
     let first = verts[at];
-    let mut j = 1;
-    while j < k {
+    for j in 1..k {
         let place = at + j;
         let other = verts[place];
         if parent[first] != parent[other] {
             forest::join(parent, first, other);
         }
-        j += 1;
     }
 }
 
@@ -32,10 +30,8 @@ fn join_each(n: usize, k: usize, verts: &[usize], parent: &mut [usize])
     ensures { Tied (Link k verts.now (n * k)) parent.new }
 {
     fan::own_numbers(parent);
-    let mut i = 0;
-    while i < n {
+    for i in 0..n {
         join_corners(n, k, i, verts, parent);
-        i += 1;
     }
 }
 
@@ -48,28 +44,15 @@ pub fn join_elements(n: usize, k: usize, verts: &[usize], parent: &mut [usize])
     forest::flatten(parent);
 }
 
-// Takes all marks away.
-fn clear(marks: &mut [usize])
-    ensures { (x : ℕ) → x < length marks.new → get_or marks.new x 0 ≡ 0 }
-{
-    let mut i = 0;
-    while i < marks.len() {
-        marks[i] = 0;
-        i += 1;
-    }
-}
-
 // Marks each particle that some element holds, and no other.
 pub fn mark_used(n: usize, k: usize, verts: &[usize], used: &mut [usize])
     requires { Corners n k verts.now (length used.old) }
     ensures { UsedMarked n k verts.now used.new }
 {
-    clear(used);
+    used.fill(0);
     let total = n * k;
-    let mut t = 0;
-    while t < total {
+    for t in 0..total {
         let x = verts[t];
         used[x] = 1;
-        t += 1;
     }
 }

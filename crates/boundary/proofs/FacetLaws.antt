@@ -29,10 +29,7 @@ use Rattle.links.specs.Links.{LinksOf}
 use Rattle.links.specs.Linked.{SidesLinked}
 use Rattle.link_changes.specs.Changes.{AppendRoom}
 use Rattle.link_changes.proofs.Edged.{pairs_append_room, pairs_appended}
-use Rattle.boundary.specs.declared.facets.Face.{Face}
-use Rattle.boundary.specs.declared.facets.Face.TheVariants.{No, Ends}
-use Rattle.work.specs.declared.Grown.{Grown}
-use Rattle.work.specs.declared.Grown.TheVariants.{Lacking, Rows}
+use Rattle.std.specs.Prelude.{Option, None, Some}
 use Rattle.work.proofs.Grows.{grown_all}
 use Rattle.lists.proofs.Truths.{and_end}
 
@@ -62,12 +59,12 @@ module _ (f : ℕ → Bool) (x y : ℕ) where
 
 -- the first face with both ends on the facet
 module _ (v copy : ℕ) (p q : List ℕ) (x y z : ℕ) (r : Bool) (R : r ≡ all (on_by v copy p q) (x ∷ y ∷ [])) where
-  pub face_first : r ≡ true → face_is (Ends x y) ≡ found_by v copy p q (faces_by x y z)
+  pub face_first : r ≡ true → face_is (Some (x, y)) ≡ found_by v copy p q (faces_by x y z)
   unfolding found_by find
   face_first d = let h : all (on_by v copy p q) (x ∷ y ∷ []) ≡ true = sym R ∙ d in rw h
 
   module _ (d : r ≡ false) (s : Bool) (S : s ≡ all (on_by v copy p q) (y ∷ z ∷ [])) where
-    pub face_second : s ≡ true → face_is (Ends y z) ≡ found_by v copy p q (faces_by x y z)
+    pub face_second : s ≡ true → face_is (Some (y, z)) ≡ found_by v copy p q (faces_by x y z)
     unfolding found_by find
     face_second e =
         let h : all (on_by v copy p q) (x ∷ y ∷ []) ≡ false = sym R ∙ d in
@@ -75,7 +72,7 @@ module _ (v copy : ℕ) (p q : List ℕ) (x y z : ℕ) (r : Bool) (R : r ≡ all
         rw (h, g)
 
     module _ (e : s ≡ false) (t : Bool) (T : t ≡ all (on_by v copy p q) (z ∷ x ∷ [])) where
-      pub face_third : t ≡ true → face_is (Ends z x) ≡ found_by v copy p q (faces_by x y z)
+      pub face_third : t ≡ true → face_is (Some (z, x)) ≡ found_by v copy p q (faces_by x y z)
       unfolding found_by find
       face_third b =
           let h : all (on_by v copy p q) (x ∷ y ∷ []) ≡ false = sym R ∙ d in
@@ -83,7 +80,7 @@ module _ (v copy : ℕ) (p q : List ℕ) (x y z : ℕ) (r : Bool) (R : r ≡ all
           let f : all (on_by v copy p q) (z ∷ x ∷ []) ≡ true = sym T ∙ b in
           rw (h, g, f)
 
-      pub face_none : t ≡ false → face_is No ≡ found_by v copy p q (faces_by x y z)
+      pub face_none : t ≡ false → face_is None ≡ found_by v copy p q (faces_by x y z)
       unfolding found_by find
       face_none b =
           let h : all (on_by v copy p q) (x ∷ y ∷ []) ≡ false = sym R ∙ d in
@@ -137,30 +134,30 @@ module _ (m a b : ℕ) (s : List ℕ) (h : m + 1 ≤ length s / 2) where
       subst (λ (j : ℕ). boundary_at (m + 1) (set (set s m a) j b) ≡ boundary_at m s ++ (record { corners = a ∷ b ∷ [] } ∷ [])) e₁
       (subst (λ (j : ℕ). boundary_at (m + 1) (set (set s j a) (1 * (length s / 2) + m) b) ≡ boundary_at m s ++ (record { corners = a ∷ b ∷ [] } ∷ [])) e₀ pushed_cols)
 
-module _ (face : Face) (m room : ℕ) (s : List ℕ) (few : m ≤ room) where
-  pub append_none : face ≡ No → SidesGrown (face_is face) m room s s (Rows m)
+module _ (face : Option (ℕ × ℕ)) (m room : ℕ) (s : List ℕ) (few : m ≤ room) where
+  pub append_none : face ≡ None → SidesGrown (face_is face) m room s s (Some m)
   append_none e =
       record {
-        sides = grown_all m room _ (λ q. boundary_at q s) (sides_many m s) few (sym (append-nil (boundary_at m s)) ∙ ap (λ (f : Face). boundary_at m s ++ face_is f) (sym e));
+        sides = grown_all m room _ (λ q. boundary_at q s) (sides_many m s) few (sym (append-nil (boundary_at m s)) ∙ ap (λ (f : Option (ℕ × ℕ)). boundary_at m s ++ face_is f) (sym e));
         between = (omega arith, few);
       }
 
-  module _ (a b : ℕ) (e : face ≡ Ends a b) where
-    pub append_lacks : m ≡ room → SidesGrown (face_is face) m room s s Lacking
+  module _ (a b : ℕ) (e : face ≡ Some (a, b)) where
+    pub append_lacks : m ≡ room → SidesGrown (face_is face) m room s s None
     append_lacks q =
         record {
           sides =
               lt-leb _ room
-              (subst (λ (f : Face). room < length (boundary_at m s ++ face_is f)) (sym e) (rw length-append (omega (arith, sides_many m s))));
+              (subst (λ (f : Option (ℕ × ℕ)). room < length (boundary_at m s ++ face_is f)) (sym e) (rw length-append (omega (arith, sides_many m s))));
           between = zero-le;
         }
 
-    pub append_one : (m ≡ room → ⊥) → room ≤ length s / 2 → SidesGrown (face_is face) m room s (set (set s m a) (length s / 2 + m) b) (Rows (m + 1))
+    pub append_one : (m ≡ room → ⊥) → room ≤ length s / 2 → SidesGrown (face_is face) m room s (set (set s m a) (length s / 2 + m) b) (Some (m + 1))
     append_one n h =
         record {
           sides =
               grown_all (m + 1) room _ (λ q. boundary_at q (set (set s m a) (length s / 2 + m) b)) (sides_many (m + 1) _) (omega arith)
-              (side_pushed m a b s (omega arith) ∙ ap (λ (f : Face). boundary_at m s ++ face_is f) (sym e));
+              (side_pushed m a b s (omega arith) ∙ ap (λ (f : Option (ℕ × ℕ)). boundary_at m s ++ face_is f) (sym e));
           between = (omega arith, omega arith);
         }
 
@@ -188,7 +185,7 @@ module _ (v before n count : ℕ) (numbers verts groups corners : List ℕ) wher
       (ap₂ (λ (ts : List Triangle) (j : ℕ). get_or ts j blank_triangle) F.triangles_are (F.numbered.number_is r l)
       ∙ tab_at t (triangle_row C (length volumes / 2) corners volumes) k blank_triangle (F.numbers_in r l)))
 
-  pub face_found : (i j r copy : ℕ) (face : Face) → i < n → j < n → r < n → CopyIs v before count (get_or groups r 0) copy
+  pub face_found : (i j r copy : ℕ) (face : Option (ℕ × ℕ)) → i < n → j < n → r < n → CopyIs v before count (get_or groups r 0) copy
       → face_is face
       ≡ found_by v copy (take (i * 3 + 3 - i * 3) (drop (i * 3) verts)) (take (j * 3 + 3 - j * 3) (drop (j * 3) verts))
       (faces_by (get_or corners (get_or numbers r 0) 0) (get_or corners (length corners / 3 + get_or numbers r 0) 0) (get_or corners (2 * (length corners / 3) + get_or numbers r 0) 0))
@@ -231,7 +228,7 @@ module _ (v before n count room : ℕ) (numbers verts groups corners : List ℕ)
 
   module _ (total left : Opening → Mesh → List Side) (m : ℕ) (s₀ s : List ℕ) (rows : ℕ) (P : Facing total left m s₀ s rows) where
     pub facing_done : ((O : Opening) (M : Mesh) (t : ℕ) (volumes : List Float) → FacetsIn O M t volumes v before n count numbers verts groups corners → left O M ≡ [])
-        → FacetsGrown total v before n count m room numbers verts groups corners s₀ s (Rows rows)
+        → FacetsGrown total v before n count m room numbers verts groups corners s₀ s (Some rows)
     facing_done e =
         record {
           facets =
@@ -242,29 +239,29 @@ module _ (v before n count room : ℕ) (numbers verts groups corners : List ℕ)
         }
 
     module _ (piece after : Opening → Mesh → List Side) (cut : (O : Opening) (M : Mesh) (t : ℕ) (volumes : List Float) → FacetsIn O M t volumes v before n count numbers verts groups corners → left O M ≡ piece O M ++ after O M)
-        (s' : List ℕ) (g : Grown) (G : FacetsGrown piece v before n count rows room numbers verts groups corners s s' g) where
+        (s' : List ℕ) (g : Option ℕ) (G : FacetsGrown piece v before n count rows room numbers verts groups corners s s' g) where
       opened : (O : Opening) (M : Mesh) (t : ℕ) (volumes : List Float) → FacetsIn O M t volumes v before n count numbers verts groups corners
           → boundary_at rows s ++ (piece O M ++ after O M) ≡ boundary_at m s₀ ++ total O M
       opened O M t B F = ap (λ (l : List Side). boundary_at rows s ++ l) (sym (cut O M t B F)) ∙ P.coming O M t B F
 
-      pub facing_lacks : g ≡ Lacking → FacetsGrown total v before n count m room numbers verts groups corners s₀ s' Lacking
+      pub facing_lacks : g ≡ None → FacetsGrown total v before n count m room numbers verts groups corners s₀ s' None
       facing_lacks q =
           record {
             facets =
                 λ O M t B F.
                 subst (λ (l : List Side). leb (length l) room ≡ false) (opened O M t B F)
                 (lacks_more room (boundary_at rows s) (piece O M) (after O M)
-                (subst (λ (z : Grown). GrownTo z room (boundary_at rows s ++ piece O M) (λ j. boundary_at j s')) q (G.facets O M t B F)));
+                (subst (λ (z : Option ℕ). GrownTo z room (boundary_at rows s ++ piece O M) (λ j. boundary_at j s')) q (G.facets O M t B F)));
             between = zero-le;
           }
 
-      pub facing_step : (rows' : ℕ) → g ≡ Rows rows' → length s' ≡ length s → Facing total after m s₀ s' rows'
+      pub facing_step : (rows' : ℕ) → g ≡ Some rows' → length s' ≡ length s → Facing total after m s₀ s' rows'
       facing_step rows' q l =
           let b = subst (Between rows room) q G.between in
           record {
             coming =
                 λ O M t B F.
-                ap (λ (z : List Side). z ++ after O M) (subst (λ (z : Grown). GrownTo z room (boundary_at rows s ++ piece O M) (λ j. boundary_at j s')) q (G.facets O M t B F)).2
+                ap (λ (z : List Side). z ++ after O M) (subst (λ (z : Option ℕ). GrownTo z room (boundary_at rows s ++ piece O M) (λ j. boundary_at j s')) q (G.facets O M t B F)).2
                 ∙ append_assoc (boundary_at rows s) (piece O M) (after O M) ∙ opened O M t B F;
             least = omega (arith, P.least, b.0);
             most = b.1;
@@ -319,7 +316,7 @@ module _ (v before n count m room : ℕ) (numbers verts groups corners : List �
 
   -- no crack opens
   shut : (s : List ℕ) → m ≤ room → ((O : Opening) (M : Mesh) (t : ℕ) (volumes : List Float) → FacetsIn O M t volumes v before n count numbers verts groups corners → opens? O.v (part_at O i) (part_at O j) ≡ false)
-      → FacetsGrown (pair_facets i j) v before n count m room numbers verts groups corners s s (Rows m)
+      → FacetsGrown (pair_facets i j) v before n count m room numbers verts groups corners s s (Some m)
   unfolding facets_at
   shut s few h =
       record {
@@ -331,18 +328,18 @@ module _ (v before n count m room : ℕ) (numbers verts groups corners : List �
         between = (omega arith, few);
       }
 
-  pub pair_same : (s : List ℕ) → m ≤ room → get_or groups i 0 ≡ get_or groups j 0 → FacetsGrown (pair_facets i j) v before n count m room numbers verts groups corners s s (Rows m)
+  pub pair_same : (s : List ℕ) → m ≤ room → get_or groups i 0 ≡ get_or groups j 0 → FacetsGrown (pair_facets i j) v before n count m room numbers verts groups corners s s (Some m)
   pair_same s few e = shut s few (λ O M t B F. opens_is O M t B F ∙ rw (eq-eqb (get_or groups i 0) (get_or groups j 0) e))
 
   pub pair_far : (s : List ℕ) → m ≤ room → (get_or groups i 0 ≡ get_or groups j 0 → ⊥) → (k : ℕ)
       → k ≡ shared_others_of v (take (i * 3 + 3 - i * 3) (drop (i * 3) verts)) (take (j * 3 + 3 - j * 3) (drop (j * 3) verts)) → (k ≡ 1 → ⊥)
-      → FacetsGrown (pair_facets i j) v before n count m room numbers verts groups corners s s (Rows m)
+      → FacetsGrown (pair_facets i j) v before n count m room numbers verts groups corners s s (Some m)
   pair_far s few d k e h =
       shut s few
       (λ O M t B F. opens_is O M t B F ∙ ap (λ (z : ℕ). not (eqb (get_or groups i 0) (get_or groups j 0)) && eqb z 1) (sym e) ∙ rw (ne_eqb (get_or groups i 0) (get_or groups j 0) d, ne_eqb k 1 h))
 
-  module _ (d : get_or groups i 0 ≡ get_or groups j 0 → ⊥) (k : ℕ) (e : k ≡ shared_others_of v (take (i * 3 + 3 - i * 3) (drop (i * 3) verts)) (take (j * 3 + 3 - j * 3) (drop (j * 3) verts))) (h : k ≡ 1) (f₁ f₂ : Face)
-      (F₁ : FaceFound i j i v before n count numbers verts groups corners f₁) (F₂ : FaceFound i j j v before n count numbers verts groups corners f₂) (s s₁ : List ℕ) (g₁ : Grown) (G₁ : SidesGrown (face_is f₁) m room s s₁ g₁) (few : m ≤ room) where
+  module _ (d : get_or groups i 0 ≡ get_or groups j 0 → ⊥) (k : ℕ) (e : k ≡ shared_others_of v (take (i * 3 + 3 - i * 3) (drop (i * 3) verts)) (take (j * 3 + 3 - j * 3) (drop (j * 3) verts))) (h : k ≡ 1) (f₁ f₂ : Option (ℕ × ℕ))
+      (F₁ : FaceFound i j i v before n count numbers verts groups corners f₁) (F₂ : FaceFound i j j v before n count numbers verts groups corners f₂) (s s₁ : List ℕ) (g₁ : Option ℕ) (G₁ : SidesGrown (face_is f₁) m room s s₁ g₁) (few : m ≤ room) where
     -- the two faces
     two : (O : Opening) (M : Mesh) (t : ℕ) (volumes : List Float) → FacetsIn O M t volumes v before n count numbers verts groups corners → face_is f₁ ++ face_is f₂ ≡ pair_facets i j O M
     unfolding facets_at
@@ -355,23 +352,23 @@ module _ (v before n count m room : ℕ) (numbers verts groups corners : List �
     start : Facing v before n count room numbers verts groups corners (pair_facets i j) (λ O M. face_is f₁ ++ face_is f₂) m s s m
     start = facing_start v before n count room numbers verts groups corners (pair_facets i j) (λ O M. face_is f₁ ++ face_is f₂) m s few two
 
-    made : {l : List Side} {m' : ℕ} {a b : List ℕ} {g : Grown} → SidesGrown l m' room a b g → FacetsGrown (λ O M. l) v before n count m' room numbers verts groups corners a b g
+    made : {l : List Side} {m' : ℕ} {a b : List ℕ} {g : Option ℕ} → SidesGrown l m' room a b g → FacetsGrown (λ O M. l) v before n count m' room numbers verts groups corners a b g
     made S = record { facets = λ O M t B F. S.sides; between = S.between }
 
-    pub pair_lacks : g₁ ≡ Lacking → FacetsGrown (pair_facets i j) v before n count m room numbers verts groups corners s s₁ Lacking
+    pub pair_lacks : g₁ ≡ None → FacetsGrown (pair_facets i j) v before n count m room numbers verts groups corners s s₁ None
     pair_lacks q = facing_lacks v before n count room numbers verts groups corners (pair_facets i j) (λ O M. face_is f₁ ++ face_is f₂) m s s m start (λ O M. face_is f₁) (λ O M. face_is f₂) (λ O M t B F. refl) s₁ g₁ (made G₁) q
 
-    pub pair_open : (rows : ℕ) → g₁ ≡ Rows rows → length s₁ ≡ length s → (s₂ : List ℕ) (g₂ : Grown) → SidesGrown (face_is f₂) rows room s₁ s₂ g₂
+    pub pair_open : (rows : ℕ) → g₁ ≡ Some rows → length s₁ ≡ length s → (s₂ : List ℕ) (g₂ : Option ℕ) → SidesGrown (face_is f₂) rows room s₁ s₂ g₂
         → FacetsGrown (pair_facets i j) v before n count m room numbers verts groups corners s s₂ g₂
     pair_open rows q l s₂ g₂ G₂ = last g₂ G₂ refl
       where
         next : Facing v before n count room numbers verts groups corners (pair_facets i j) (λ O M. face_is f₂) m s s₁ rows
         next = facing_step v before n count room numbers verts groups corners (pair_facets i j) (λ O M. face_is f₁ ++ face_is f₂) m s s m start (λ O M. face_is f₁) (λ O M. face_is f₂) (λ O M t B F. refl) s₁ g₁ (made G₁) rows q l
 
-        last : (g : Grown) → SidesGrown (face_is f₂) rows room s₁ s₂ g → g ≡ g₂ → FacetsGrown (pair_facets i j) v before n count m room numbers verts groups corners s s₂ g
-        last Lacking S z =
-            facing_lacks v before n count room numbers verts groups corners (pair_facets i j) (λ O M. face_is f₂) m s s₁ rows next (λ O M. face_is f₂) (λ O M. []) (λ O M t B F. sym (append-nil (face_is f₂))) s₂ Lacking (made S) refl
-        last (Rows r) S z =
+        last : (g : Option ℕ) → SidesGrown (face_is f₂) rows room s₁ s₂ g → g ≡ g₂ → FacetsGrown (pair_facets i j) v before n count m room numbers verts groups corners s s₂ g
+        last None S z =
+            facing_lacks v before n count room numbers verts groups corners (pair_facets i j) (λ O M. face_is f₂) m s s₁ rows next (λ O M. face_is f₂) (λ O M. []) (λ O M t B F. sym (append-nil (face_is f₂))) s₂ None (made S) refl
+        last (Some r) S z =
             record {
               facets =
                   λ O M t B F.
@@ -382,8 +379,8 @@ module _ (v before n count m room : ℕ) (numbers verts groups corners : List �
 -- ---- the table of the entries
 
 -- the table of entries that grew
-pub linked_rows : {r : Grown} {m : ℕ} {s table : List ℕ} → r ≡ Rows m → GrownLinked r s table → SidesLinked m s table
-linked_rows {r} {m} {s} {table} q L = subst (λ (z : Grown). GrownLinked z s table) q L
+pub linked_rows : {r : Option ℕ} {m : ℕ} {s table : List ℕ} → r ≡ Some m → GrownLinked r s table → SidesLinked m s table
+linked_rows {r} {m} {s} {table} q L = subst (λ (z : Option ℕ). GrownLinked z s table) q L
 
 -- an entry more
 module _ {m room : ℕ} {s table : List ℕ} (T : FacetTable m room s table) (R : SideRoom m room (length s)) (ne : m ≡ room → ⊥) (a b : ℕ) (A : (a < 1024) × (b < 1024) × (a ≡ b → ⊥)) where

@@ -1,5 +1,5 @@
 -- The crack facets of a split: what the workers on them ask and give. Only contracts between workers need this file. Definitions only.
-use Rattle.std.specs.Prelude.{ℕ, ◌+◌, ◌*◌, ◌/◌, ◌<◌, ◌≤◌, ◌≡◌, Bool, not, ◌&&◌, ◌||◌, List, [], ◌∷◌, map, ◌++◌, length, get_or, drop, Float, eqb}
+use Rattle.std.specs.Prelude.{ℕ, ◌+◌, ◌*◌, ◌/◌, ◌<◌, ◌≤◌, ◌≡◌, Bool, not, ◌&&◌, ◌||◌, List, [], ◌∷◌, map, ◌++◌, length, get_or, drop, Float, eqb, Option, None, Some}
 use Rattle.model.specs.Mesh.{Side, Mesh}
 use Rattle.lists.specs.Lists.{stands, all, find, each}
 use Rattle.model.specs.Elements.{Triangles, side_ends}
@@ -9,16 +9,12 @@ use Rattle.mesh.specs.Widths.{corner_columns}
 use Rattle.mesh.specs.Limits.{particle_limit}
 use Rattle.split_plan.specs.Opened.{part_at, Numbered, Ringed, RingRoom}
 use Rattle.work.specs.Rows.{GrownTo, Between}
-use Rattle.boundary.specs.declared.facets.Face.{Face}
-use Rattle.boundary.specs.declared.facets.Face.TheVariants.{No, Ends}
-use Rattle.work.specs.declared.Grown.{Grown}
-use Rattle.work.specs.declared.Grown.TheVariants.{Lacking, Rows}
 use Rattle.links.specs.Linked.{SidesLinked}
 
 -- the face that was found, as a list
-abbrev pub face_is : Face → List Side
-face_is No = []
-face_is (Ends a b) = record { corners = a ∷ b ∷ [] } ∷ []
+abbrev pub face_is : Option (ℕ × ℕ) → List Side
+face_is None = []
+face_is (Some (a, b)) = record { corners = a ∷ b ∷ [] } ∷ []
 
 -- is w the copy, or a particle besides v of both lists: `on_facet` of two parts with these corners
 abbrev pub on_by : ℕ → ℕ → List ℕ → List ℕ → ℕ → Bool
@@ -33,9 +29,9 @@ unfoldable pub found_by : ℕ → ℕ → List ℕ → List ℕ → List Side �
 found_by v copy p q faces = one_or_none (find (λ (s : Side). all (on_by v copy p q) (side_ends s)) faces)
 
 -- a face that was found has two different ends, among 1,024 particles
-abbrev pub FaceApart : Face → Type 0
-FaceApart No = Unit {0}
-FaceApart (Ends a b) = (a < particle_limit) × (b < particle_limit) × (a ≡ b → ⊥)
+abbrev pub FaceApart : Option (ℕ × ℕ) → Type 0
+FaceApart None = Unit {0}
+FaceApart (Some (a, b)) = (a < particle_limit) × (b < particle_limit) × (a ≡ b → ⊥)
 
 -- the corners x, y and z are different ones of 1,024 particles
 pub record ThreeApart (x y z : ℕ) : Type 0 where
@@ -69,18 +65,18 @@ pub record FaceRoom (before n count : ℕ) (numbers : List ℕ) (lv lg lc : ℕ)
   pub numbers_in : (i : ℕ) → i < n → get_or numbers i 0 < lc / corner_columns
 
 -- the face of part r on the facet between parts i and j
-pub record FaceFound (i j r v before n count : ℕ) (numbers verts groups corners : List ℕ) (face : Face) : Type 0 where
+pub record FaceFound (i j r v before n count : ℕ) (numbers verts groups corners : List ℕ) (face : Option (ℕ × ℕ)) : Type 0 where
   pub is :
       (O : Opening) (M : Mesh) (t : ℕ) (volumes : List Float) → FacetsIn O M t volumes v before n count numbers verts groups corners
       → face_is face ≡ face_on M O (part_at O i) (part_at O j) (part_at O r)
 
 -- a list of sides stands behind the m entries
-pub record SidesGrown (l : List Side) (m room : ℕ) (outline outline' : List ℕ) (r : Grown) : Type 0 where
+pub record SidesGrown (l : List Side) (m room : ℕ) (outline outline' : List ℕ) (r : Option ℕ) : Type 0 where
   pub sides : GrownTo r room (boundary_at m outline ++ l) (λ q. boundary_at q outline')
   pub between : Between m room r
 
 -- the facets that each opening's f gives stand behind the m entries
-pub record FacetsGrown (f : Opening → Mesh → List Side) (v before n count m room : ℕ) (numbers verts groups corners outline outline' : List ℕ) (r : Grown) : Type 0 where
+pub record FacetsGrown (f : Opening → Mesh → List Side) (v before n count m room : ℕ) (numbers verts groups corners outline outline' : List ℕ) (r : Option ℕ) : Type 0 where
   pub facets :
       (O : Opening) (M : Mesh) (t : ℕ) (volumes : List Float) → FacetsIn O M t volumes v before n count numbers verts groups corners
       → GrownTo r room (boundary_at m outline ++ f O M) (λ q. boundary_at q outline')
@@ -104,6 +100,6 @@ pub record FacetTable (m room : ℕ) (outline table : List ℕ) : Type 0 where
   pub few : room ≤ 2048
 
 -- where entries were appended, the table is that of all of them
-abbrev pub GrownLinked : Grown → List ℕ → List ℕ → Type 0
-GrownLinked Lacking outline table = Unit {0}
-GrownLinked (Rows m) outline table = SidesLinked m outline table
+abbrev pub GrownLinked : Option ℕ → List ℕ → List ℕ → Type 0
+GrownLinked None outline table = Unit {0}
+GrownLinked (Some m) outline table = SidesLinked m outline table

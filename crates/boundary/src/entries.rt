@@ -21,12 +21,10 @@ fn first_holder(x: usize, y: usize, n: usize, k: usize, verts: &[usize]) -> usiz
     requires { RingRoom n k (length verts.now) n }
     ensures { FirstHolder x y n k verts.now result }
 {
-    let mut i: usize = 0;
-    while i < n {
+    for i in 0..n {
         if part_holds(x, y, k, i, verts) {
             return i;
         }
-        i += 1;
     }
     n
 }
@@ -133,11 +131,9 @@ pub fn follow_boundary(
         table,
         list,
     );
-    let mut q: usize = 0;
-    while q < named {
+    for q in 0..named {
         follow_entry(
             list[q], v, before, k, n, b, verts, groups, points, outline, table,
         );
-        q += 1;
     }
 }

@@ -4,15 +4,6 @@ ghost use Rattle.lists.specs.Lists.{all};
 ghost use Rattle.boundary.specs.Faces.{on_by, faces_by, found_by, face_is, FaceApart, ThreeApart, FanApart, FaceRoom, FaceFound, SidesGrown, FacetsGrown, pair_facets, row_facets, all_facets, FacetTable, GrownLinked};
 ghost use Rattle.work.specs.Rows.{SideRoom};
 
-use work::Grown;
-
-// A face that was found, by its ends, or none.
-#[derive(Clone, Copy)]
-pub enum Face {
-    No,
-    Ends(usize, usize),
-}
-
 // Is w the copy, or a particle besides v of both p and q?
 fn on_facet(w: usize, v: usize, copy: usize, p: &[usize], q: &[usize]) -> bool
     ensures { result ≡ on_by v copy p.now q.now w }
@@ -39,21 +30,29 @@ fn side_on(x: usize, y: usize, v: usize, copy: usize, p: &[usize], q: &[usize]) 
     false
 }
 
-// The first face of (x, y, z) with both ends on the facet.
-fn first_face(x: usize, y: usize, z: usize, v: usize, copy: usize, p: &[usize], q: &[usize]) -> Face
+// The ends of the first face of (x, y, z) with both ends on the facet, or none.
+fn first_face(
+    x: usize,
+    y: usize,
+    z: usize,
+    v: usize,
+    copy: usize,
+    p: &[usize],
+    q: &[usize],
+) -> Option<(usize, usize)>
     requires { ThreeApart x y z }
     ensures { (face_is result ≡ found_by v copy p.now q.now (faces_by x y z)) × FaceApart result }
 {
     if side_on(x, y, v, copy, p, q) {
-        return Face::Ends(x, y);
+        return Some((x, y));
     }
     if side_on(y, z, v, copy, p, q) {
-        return Face::Ends(y, z);
+        return Some((y, z));
     }
     if side_on(z, x, v, copy, p, q) {
-        return Face::Ends(z, x);
+        return Some((z, x));
     }
-    Face::No
+    None
 }
 
 // The face on the facet between parts i and j of the triangle of part r, as it is now.
@@ -69,7 +68,7 @@ fn face_of(
     verts: &[usize],
     groups: &[usize],
     corners: &[usize],
-) -> Face
+) -> Option<(usize, usize)>
     requires { FaceRoom before n count numbers.now (length verts.now) (length groups.now) (length corners.now) × (i < n) × (j < n)
         × (r < n) × FanApart n numbers.now corners.now }
     ensures { FaceFound i j r v before n count numbers.now verts.now groups.now
@@ -93,17 +92,23 @@ fn face_of(
     )
 }
 
-// Appends a face that was found to the m entries, and to their table.
-fn append_face(face: Face, m: usize, room: usize, outline: &mut [usize], table: &mut [u16]) -> Grown
+// Appends a face that was found to the m entries, and to their table: how many entries there are then, or None where there is no room.
+fn append_face(
+    face: Option<(usize, usize)>,
+    m: usize,
+    room: usize,
+    outline: &mut [usize],
+    table: &mut [u16],
+) -> Option<usize>
     requires { SideRoom m room (length outline.old) × FacetTable m room outline.old table.old × FaceApart face }
     ensures { SidesGrown (face_is face) m room outline.old outline.new result × GrownLinked result outline.new
         table.new }
 {
-    let Face::Ends(a, b) = face else {
-        return Grown::Rows(m);
+    let Some((a, b)) = face else {
+        return Some(m);
     };
     if m == room {
-        return Grown::Lacking;
+        return None;
     }
     let o = outline.len() / mesh::SIDE_COLUMNS;
     outline[m] = a;
@@ -117,7 +122,7 @@ fn append_face(face: Face, m: usize, room: usize, outline: &mut [usize], table: 
         outline,
         table,
     );
-    Grown::Rows(m + 1)
+    Some(m + 1)
 }
 
 // Where the crack opens between parts i and j, appends the faces of both.
@@ -136,7 +141,7 @@ fn open_pair(
     corners: &[usize],
     outline: &mut [usize],
     table: &mut [u16],
-) -> Grown
+) -> Option<usize>
     requires { FaceRoom before n count numbers.now (length verts.now) (length groups.now) (length corners.now)
         × SideRoom m room (length outline.old) × (i < n) × (j < n) × FanApart n numbers.now corners.now
         × FacetTable m room outline.old table.old }
@@ -144,12 +149,12 @@ fn open_pair(
         corners.now outline.old outline.new result × GrownLinked result outline.new table.new }
 {
     if groups[i] == groups[j] {
-        return Grown::Rows(m);
+        return Some(m);
     }
     let a = i * 3;
     let b = j * 3;
     if fan::shared_others(&verts[a..a + 3], &verts[b..b + 3], v) != 1 {
-        return Grown::Rows(m);
+        return Some(m);
     }
     let first = face_of(
         i, j, i, v, before, n, count, numbers, verts, groups, corners,
@@ -157,10 +162,7 @@ fn open_pair(
     let second = face_of(
         i, j, j, v, before, n, count, numbers, verts, groups, corners,
     );
-    let grown = append_face(first, m, room, outline, table);
-    let Grown::Rows(rows) = grown else {
-        return Grown::Lacking;
-    };
+    let rows = append_face(first, m, room, outline, table)?;
     append_face(second, rows, room, outline, table)
 }
 
@@ -179,7 +181,7 @@ fn open_row(
     corners: &[usize],
     outline: &mut [usize],
     table: &mut [u16],
-) -> Grown
+) -> Option<usize>
     requires { FaceRoom before n count numbers.now (length verts.now) (length groups.now) (length corners.now)
         × SideRoom m room (length outline.old) × (i < n) × FanApart n numbers.now corners.now
         × FacetTable m room outline.old table.old }
@@ -187,21 +189,15 @@ fn open_row(
         corners.now outline.old outline.new result × GrownLinked result outline.new table.new }
 {
     let mut rows = m;
-    let mut j = i + 1;
-    while j < n {
-        let grown = open_pair(
+    for j in i + 1..n {
+        rows = open_pair(
             i, j, v, before, n, count, rows, room, numbers, verts, groups, corners, outline, table,
-        );
-        let Grown::Rows(more) = grown else {
-            return Grown::Lacking;
-        };
-        rows = more;
-        j += 1;
+        )?;
     }
-    Grown::Rows(rows)
+    Some(rows)
 }
 
-// Appends the faces that open between the parts of a fan, pair by pair, to the b entries of the outline and to their table.
+// Appends the faces that open between the parts of a fan, pair by pair, to the b entries of the outline and to their table: how many entries there are then, or None where there is no room.
 pub fn crack_facets(
     v: usize,
     before: usize,
@@ -215,7 +211,7 @@ pub fn crack_facets(
     corners: &[usize],
     outline: &mut [usize],
     table: &mut [u16],
-) -> Grown
+) -> Option<usize>
     requires { FaceRoom before n count numbers.now (length verts.now) (length groups.now) (length corners.now)
         × SideRoom b room (length outline.old) × FanApart n numbers.now corners.now
         × FacetTable b room outline.old table.old }
@@ -223,16 +219,10 @@ pub fn crack_facets(
         corners.now outline.old outline.new result × GrownLinked result outline.new table.new }
 {
     let mut rows = b;
-    let mut i: usize = 0;
-    while i < n {
-        let grown = open_row(
+    for i in 0..n {
+        rows = open_row(
             i, v, before, n, count, rows, room, numbers, verts, groups, corners, outline, table,
-        );
-        let Grown::Rows(more) = grown else {
-            return Grown::Lacking;
-        };
-        rows = more;
-        i += 1;
+        )?;
     }
-    Grown::Rows(rows)
+    Some(rows)
 }

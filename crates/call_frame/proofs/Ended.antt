@@ -10,18 +10,18 @@ use Rattle.mesh.specs.Log.{World, log_at, world_at}
 use Rattle.mesh.specs.Given.{Lent}
 use Rattle.mesh.specs.Filled.{Filled, Fits}
 use Rattle.mesh.specs.declared.Counts.{Counts}
-use Rattle.work.specs.declared.Ran.{Ran}
-use Rattle.work.specs.declared.Ran.TheVariants.{Refused as Stopped, Done as Ended}
+use Rattle.work.specs.Ran.{Ran}
 use Rattle.call_frame.specs.Answered.{nothing}
 use Rattle.call_frame.specs.Framed.{words_change, RanFits, Finished}
-use Rattle.call_frame.specs.declared.Answer.TheVariants.{Refused, Done}
+use Rattle.std.specs.Prelude.{Ok, Err}
+use Rattle.mesh.specs.declared.refusals.Refusal.{Refusal}
 
 -- no rows
 abbrev none : Counts
 none = record { particles = 0; triangles = 0; edges = 0; boundary = 0; log = 0 }
 
 -- counts that a worker came to fit
-pub ended_fits : (ran : Ran) (k : Counts) (L : Lent) → RanFits ran L → ran ≡ Ended k → Fits k L
+pub ended_fits : (ran : Ran) (k : Counts) (L : Lent) → RanFits ran L → ran ≡ Ok k → Fits k L
 ended_fits ran k L f e = subst (λ (x : Ran). RanFits x L) e f
 
 module _ (p : List Float) (r c : List ℕ) (v : List Float) (e : List ℕ) (l : List Float) (o g : List ℕ) where
@@ -32,15 +32,15 @@ module _ (p : List Float) (r c : List ℕ) (v : List Float) (e : List ℕ) (l : 
 
   module _ (ran : Ran) (L : Lent) (p' : List Float) (r' c' : List ℕ) (v' : List Float) (e' : List ℕ) (l' : List Float) (o' g' : List ℕ) where
     -- after a refusal every place is 0
-    pub finished_refused : (n : ℕ) → ran ≡ Stopped n → Filled (world_at none p r c v e l o g) L p' r' c' v' e' l' o' g'
-        → Finished ran (λ k. world_at k p r c v e l o g) L (Refused n) p' r' c' v' e' l' o' g'
+    pub finished_refused : (n : Refusal) → ran ≡ Err n → Filled (world_at none p r c v e l o g) L p' r' c' v' e' l' o' g'
+        → Finished ran (λ k. world_at k p r c v e l o g) L (Err n) p' r' c' v' e' l' o' g'
     finished_refused n same f =
         let f' : Filled nothing L p' r' c' v' e' l' o' g' = subst (λ (W : World). Filled W L p' r' c' v' e' l' o' g') no_world f in
-        subst (λ (x : Ran). Finished x (λ k. world_at k p r c v e l o g) L (Refused n) p' r' c' v' e' l' o' g') (sym same) (record { answer = refl; blocks = f' })
+        subst (λ (x : Ran). Finished x (λ k. world_at k p r c v e l o g) L (Err n) p' r' c' v' e' l' o' g') (sym same) (record { answer = refl; blocks = f' })
 
     -- else the fronts stay, and the log tells whether anything changed
-    pub finished_done : (k : Counts) (any : Bool) → ran ≡ Ended k → any ≡ words_change (log_at k.log g) → Filled (world_at k p r c v e l o g) L p' r' c' v' e' l' o' g'
-        → Finished ran (λ k. world_at k p r c v e l o g) L (Done k any) p' r' c' v' e' l' o' g'
+    pub finished_done : (k : Counts) (any : Bool) → ran ≡ Ok k → any ≡ words_change (log_at k.log g) → Filled (world_at k p r c v e l o g) L p' r' c' v' e' l' o' g'
+        → Finished ran (λ k. world_at k p r c v e l o g) L (Ok (record { counts = k; changed = any })) p' r' c' v' e' l' o' g'
     unfolding world_at
     finished_done k any same told f =
-        subst (λ (x : Ran). Finished x (λ k. world_at k p r c v e l o g) L (Done k any) p' r' c' v' e' l' o' g') (sym same) (record { answer = ap (Done k) told; blocks = f })
+        subst (λ (x : Ran). Finished x (λ k. world_at k p r c v e l o g) L (Ok (record { counts = k; changed = any })) p' r' c' v' e' l' o' g') (sym same) (record { answer = ap (λ (b : Bool). Ok (record { counts = k; changed = b })) told; blocks = f })

@@ -12,8 +12,9 @@ use Rattle.model.specs.Calls.{Outcome, refused, done}
 use Rattle.mesh.specs.Log.{Words, words_of, word_list, words_in}
 use Rattle.mesh.specs.Given.{Lent}
 use Rattle.mesh.specs.declared.Counts.{Counts}
-use Rattle.call_frame.specs.declared.Answer.TheVariants.{Done}
 use Rattle.call_frame.specs.Answered.{Answered, shown, counts_of, front_of}
+use Rattle.std.specs.Prelude.{Ok}
+use Rattle.call_frame.specs.declared.Answer.{Answer}
 
 -- six words for each entry
 pub words_long : (l : List Words) → length (words_in l) ≡ 6 * length l
@@ -35,9 +36,10 @@ front_words l m g e h =
 
 -- after an accepted call that told so many entries, the front is the words of the log that the definition gave
 pub front_told : (o : Outcome) (L : Lent) (k : Counts) (b : Bool) (p : List Float) (r c : List ℕ) (v : List Float) (e : List ℕ) (l : List Float) (s g : List ℕ)
-    → Answered o L (Done k b) p r c v e l s g → length g ≡ L.log → front_of k.log g ≡ words_in (shown o).log
+    → Answered o L (Ok (record { counts = k; changed = b })) p r c v e l s g → length g ≡ L.log → front_of k.log g ≡ words_in (shown o).log
 front_told (refused n) L k b p r c v e l s g A h = let z : ◌≡◌ {A = ℕ} 0 1 = cc A.answer in absurd (omega arith)
 front_told (done M more t) L k b p r c v e l s g A h =
-    let q : k ≡ counts_of M more = cc A.answer in
+    let a : ◌≡◌ {A = Answer} (record { counts = k; changed = b }) (record { counts = counts_of M more; changed = t }) = cc A.answer in
+    let q : k ≡ counts_of M more = ap (λ (x : Answer). x.counts) a in
     let n : k.log ≡ length (map words_of more) = ap (λ (x : Counts). x.log) q ∙ sym (length-map more words_of) in
     ap (λ (j : ℕ). front_of j g) n ∙ front_words (map words_of more) L.log g A.blocks.log h

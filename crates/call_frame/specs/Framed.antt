@@ -1,5 +1,5 @@
 -- How a call that gives a mesh begins and ends: the copy of the input where there is room for it, and the end from what the worker came to. Only contracts between workers need this file. Definitions only.
-use Rattle.std.specs.Prelude.{ℕ, ◌/◌, ◌≤◌, ◌≡◌, Bool, true, List, eqb, Float}
+use Rattle.std.specs.Prelude.{ℕ, ◌/◌, ◌≤◌, ◌≡◌, Bool, true, List, eqb, Float, Result, Ok, Err}
 use Rattle.lists.specs.Lists.{pick, any}
 use Rattle.model.specs.Mesh.{Mesh}
 use Rattle.model.specs.Run as M
@@ -12,11 +12,11 @@ use Rattle.mesh.specs.declared.Counts.{Counts}
 use Rattle.mesh.specs.declared.Rooms.{Rooms}
 use Rattle.mesh.specs.Widths.{point_columns, corner_columns, end_columns, length_columns, root_columns, volume_columns, side_columns}
 use Rattle.work.specs.Working.{Within}
-use Rattle.work.specs.declared.Ran.{Ran}
-use Rattle.work.specs.declared.Ran.TheVariants.{Refused as Stopped, Done as Ended}
+use Rattle.work.specs.Ran.{Ran}
+use Rattle.mesh.specs.Refused.{answer_in}
 use Rattle.call_frame.specs.Answered.{nothing, shown, answer_of}
 use Rattle.call_frame.specs.declared.Answer.{Answer}
-use Rattle.call_frame.specs.declared.Answer.TheVariants.{Refused, Done}
+use Rattle.mesh.specs.declared.refusals.Refusal.{Refusal}
 
 -- ---- what a log tells
 
@@ -48,10 +48,10 @@ pub record RoomsLent (R : Rooms) (I : Lent) : Type 0 where
   pub lengths : R.edges ≤ I.lengths / length_columns
   pub outline : R.boundary ≤ I.outline / side_columns
 
--- what is asked before an input is copied: where nothing has refused it, its sizes fit, and its triangles have room
-pub record BeginAsked (code : ℕ) (R : Rooms) (G : Given) (I : Lent) : Type 0 where
-  pub sized : code ≡ 0 → sizes_fit_of G ≡ true
-  pub triangles : code ≡ 0 → (sizes G).triangles ≤ R.triangles
+-- what is asked before an input is copied, which nothing has refused: its sizes fit, and its triangles have room
+pub record BeginAsked (R : Rooms) (G : Given) (I : Lent) : Type 0 where
+  pub sized : sizes_fit_of G ≡ true
+  pub triangles : (sizes G).triangles ≤ R.triangles
   pub rooms : RoomsLent R I
 
 -- the number that is told, and the mesh that the lent blocks hold where it is 0
@@ -63,31 +63,31 @@ pub record Begun (code : ℕ) (R : Rooms) (N held : Mesh) (r : ℕ) : Type 0 whe
 
 -- the counts that a worker came to fit the lent blocks
 abbrev pub RanFits : Ran → Lent → Type 0
-RanFits (Stopped c) L = Unit {0}
-RanFits (Ended k) L = Fits k L
+RanFits (Err c) L = Unit {0}
+RanFits (Ok k) L = Fits k L
 
 -- what is shown of what a worker came to, where the blocks hold `at` of its counts
 abbrev pub shown_of : Ran → (Counts → World) → World
-shown_of (Stopped c) at = nothing
-shown_of (Ended k) at = at k
+shown_of (Err c) at = nothing
+shown_of (Ok k) at = at k
 
 -- what is answered of it
-abbrev pub said_of : Ran → (Counts → World) → Answer
-said_of (Stopped c) at = Refused c
-said_of (Ended k) at = Done k (words_change (at k).log)
+abbrev pub said_of : Ran → (Counts → World) → Result Answer Refusal
+said_of (Err c) at = Err c
+said_of (Ok k) at = Ok (record { counts = k; changed = words_change (at k).log })
 
 -- the counts that a worker came to are within the rooms
 abbrev pub RanWithin : Ran → Rooms → Type 0
-RanWithin (Stopped c) R = Unit {0}
-RanWithin (Ended k) R = Within k R
+RanWithin (Err c) R = Unit {0}
+RanWithin (Ok k) R = Within k R
 
 -- a call came to the outcome o, in rooms R and in blocks that hold `at` of its counts
 pub record Came (o : Outcome) (R : Rooms) (at : Counts → World) (ran : Ran) : Type 0 where
-  pub said : said_of ran at ≡ answer_of o
+  pub said : answer_in (said_of ran at) ≡ answer_of o
   pub shows : shown_of ran at ≡ shown o
   pub within : RanWithin ran R
 
 -- the answer, and every lent place
-pub record Finished (ran : Ran) (at : Counts → World) (L : Lent) (a : Answer) (p : List Float) (r c : List ℕ) (v : List Float) (e : List ℕ) (l : List Float) (b g : List ℕ) : Type 0 where
+pub record Finished (ran : Ran) (at : Counts → World) (L : Lent) (a : Result Answer Refusal) (p : List Float) (r c : List ℕ) (v : List Float) (e : List ℕ) (l : List Float) (b g : List ℕ) : Type 0 where
   pub answer : a ≡ said_of ran at
   pub blocks : Filled (shown_of ran at) L p r c v e l b g

@@ -7,18 +7,6 @@ ghost use Rattle.mesh.specs.Log.{world_at};
 
 use mesh::Counts;
 
-// Puts 0 into the places of a log from n on.
-fn clear_words(n: usize, log: &mut [u32])
-    requires { n ≤ length log.old }
-    ensures { log.new ≡ padded (length log.old) 0 (take n log.old) }
-{
-    let mut i: usize = n;
-    while i < log.len() {
-        log[i] = 0;
-        i += 1;
-    }
-}
-
 // Puts 0 behind the counts, in every block and in the log: the blocks are finished beside a log of no entries, and then the log.
 pub fn finish_all(
     k: Counts,
@@ -47,5 +35,5 @@ pub fn finish_all(
     mesh::whole::finish_all(
         q, points, roots, corners, volumes, ends, lengths, outline, &mut none,
     );
-    clear_words(6 * k.log, log);
+    columns::clear(6 * k.log, log);
 }

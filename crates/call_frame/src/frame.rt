@@ -3,33 +3,34 @@ ghost use Rattle.std.specs.Prelude.{◌≡◌, []};
 ghost use Rattle.model.specs.Calls.{too_small};
 ghost use Rattle.mesh.specs.Given.{mesh_of, sizes, as_rooms};
 ghost use Rattle.mesh.specs.Filled.{lent};
+ghost use Rattle.mesh.specs.Refused.{refusal_in};
 ghost use Rattle.call_frame.specs.Framed.{copy_need, BeginAsked, Begun, RanFits, Finished};
 ghost use Rattle.mesh.specs.Blocks.{mesh_behind, lent_in, lent_before, given_in, given_before, blocks_in};
 ghost use Rattle.mesh.specs.Log.{world_at};
 
 use crate::Answer;
+use mesh::refusals::Refusal;
 use mesh::{Counts, Rooms};
 use work::Ran;
 
-// 5, 6 or 7 if the copy of an input with these counts lacks room for particles, edges or boundary, else 0.
-pub fn lacking(k: Counts, room: Rooms) -> usize
-    ensures { result ≡ too_small (as_rooms room) (copy_need k) }
+// 5, 6 or 7 if the copy of an input with these counts lacks room for particles, edges or boundary.
+pub fn lacking(k: Counts, room: Rooms) -> Result<(), Refusal>
+    ensures { refusal_in result ≡ too_small (as_rooms room) (copy_need k) }
 {
     if room.particles < k.particles {
-        return mesh::refusals::PARTICLES;
+        return Err(Refusal::Particles);
     }
     if room.edges < k.edges {
-        return mesh::refusals::EDGES;
+        return Err(Refusal::Edges);
     }
     if room.boundary < k.boundary {
-        return mesh::refusals::BOUNDARY;
+        return Err(Refusal::Boundary);
     }
-    0
+    Ok(())
 }
 
-// Copies the input to the lent blocks, unless there is a refusal already, or no room for it. Returns the refusal, or 0.
+// Copies an input that nothing has refused to the lent blocks, unless there is no room for it.
 pub fn begin(
-    code: usize,
     room: Rooms,
     in_points: &[f32],
     in_roots: &[usize],
@@ -45,15 +46,13 @@ pub fn begin(
     ends: &mut [usize],
     lengths: &mut [f32],
     outline: &mut [usize],
-) -> usize
-    requires { BeginAsked code room (given_in in_points in_roots in_corners in_volumes in_ends in_lengths in_outline)
+) -> Result<(), Refusal>
+    requires { BeginAsked room (given_in in_points in_roots in_corners in_volumes in_ends in_lengths in_outline)
         (blocks_in points roots corners volumes ends lengths outline) }
     ensures { let G = given_before in_points in_roots in_corners in_volumes in_ends in_lengths in_outline in
-        Begun code room (mesh_of G) (mesh_behind (sizes G) points roots corners volumes ends lengths outline) result }
+        Begun 0 room (mesh_of G) (mesh_behind (sizes G) points roots corners volumes ends lengths outline)
+        (refusal_in result) }
 {
-    if code != 0 {
-        return code;
-    }
     let k = Counts {
         particles: in_points.len() / mesh::POINT_COLUMNS,
         triangles: in_corners.len() / mesh::CORNER_COLUMNS,
@@ -61,15 +60,12 @@ pub fn begin(
         boundary: in_outline.len() / mesh::SIDE_COLUMNS,
         log: 0,
     };
-    let lack = lacking(k, room);
-    if lack != 0 {
-        return lack;
-    }
+    lacking(k, room)?;
     mesh::whole::copy_all(
         k, in_points, in_roots, in_corners, in_volumes, in_ends, in_lengths, in_outline, points,
         roots, corners, volumes, ends, lengths, outline,
     );
-    0
+    Ok(())
 }
 
 // The end of a call: 0 behind the rows and the log that its worker came to, or everywhere after a refusal; and the answer.
@@ -83,14 +79,14 @@ pub fn finish(
     lengths: &mut [f32],
     outline: &mut [usize],
     log: &mut [u32],
-) -> Answer
+) -> Result<Answer, Refusal>
     requires { RanFits ran (lent_in points roots corners volumes ends lengths outline log) }
     ensures { Finished ran (λ k. world_at k points.old roots.old corners.old volumes.old ends.old lengths.old outline.old log.old)
         (lent_before points roots corners volumes ends lengths outline log) result points.new roots.new corners.new
         volumes.new ends.new lengths.new outline.new log.new }
 {
     match ran {
-        Ran::Refused(c) => {
+        Err(c) => {
             let none = Counts {
                 particles: 0,
                 triangles: 0,
@@ -101,14 +97,17 @@ pub fn finish(
             crate::closing::finish_all(
                 none, points, roots, corners, volumes, ends, lengths, outline, log,
             );
-            Answer::Refused(c)
+            Err(c)
         }
-        Ran::Done(k) => {
+        Ok(k) => {
             let any = crate::logged::changed(k.log, log);
             crate::closing::finish_all(
                 k, points, roots, corners, volumes, ends, lengths, outline, log,
             );
-            Answer::Done(k, any)
+            Ok(Answer {
+                counts: k,
+                changed: any,
+            })
         }
     }
 }

@@ -7,9 +7,9 @@ pub mod logged;
 
 use mesh::Counts;
 
-// The number of a refusal; or how many rows each list has, and whether anything was split or inserted.
+// The answer of a call that was not refused: how many rows each list has, and whether anything was split or inserted.
 #[derive(Clone, Copy)]
-pub enum Answer {
-    Refused(usize),
-    Done(Counts, bool),
+pub struct Answer {
+    pub counts: Counts,
+    pub changed: bool,
 }

@@ -17,12 +17,10 @@ pub fn changed(n: usize, log: &[u32]) -> bool
     requires { n ≤ length log.now / entry_words }
     ensures { result ≡ words_change (log_at n log.now) }
 {
-    let mut i: usize = 0;
-    while i < n {
+    for i in 0..n {
         if kind_changes(log[6 * i]) {
             return true;
         }
-        i += 1;
     }
     false
 }

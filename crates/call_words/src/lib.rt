@@ -3,11 +3,13 @@
 
 ghost use Rattle.std.specs.Prelude.{◌≡◌, length};
 ghost use Rattle.mesh_calls.specs.declared.Job.TheVariants.{Cut};
+ghost use Rattle.mesh.specs.Refused.{refusal_in};
 ghost use Rattle.image.specs.Words.{number_of};
 ghost use Rattle.reading_replies.specs.Replies.{point_at_of};
 ghost use Rattle.call_words.specs.Rooms.{Limited, rooms_given, rooms_too, lacks_room_of};
 
 use mesh::Rooms;
+use mesh::refusals::Refusal;
 use mesh_calls::Job;
 
 // The rooms that four words and so many log bytes are; other bytes are none.
@@ -33,16 +35,21 @@ pub fn rooms_in(rooms: &[u8], logged: usize) -> Rooms
 }
 
 // The refusal of a job, where the rooms are four words; other rooms are a bad argument, 4, which comes behind 1 to 3 and before the rest.
-pub fn with_rooms(code: usize, sixteen: bool) -> usize
-    ensures { result ≡ rooms_too code sixteen }
+pub fn with_rooms(fault: Result<(), Refusal>, sixteen: bool) -> Result<(), Refusal>
+    ensures { refusal_in result ≡ rooms_too (refusal_in fault) sixteen }
 {
     if sixteen {
-        return code;
+        return fault;
     }
-    if code == 0 {
-        return mesh::refusals::ARGUMENT;
+    let Err(e) = fault else {
+        return Err(Refusal::Argument);
+    };
+    match e {
+        Refusal::Size => fault,
+        Refusal::Number => fault,
+        Refusal::Name => fault,
+        _ => Err(Refusal::Argument),
     }
-    mesh::whole::least(code, mesh::refusals::ARGUMENT)
 }
 
 // Does a refusal say that a room lacks?

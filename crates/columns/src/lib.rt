@@ -1,4 +1,4 @@
-// Functions on one column and on a block of columns, at f32 and usize. Their proofs share the laws of proofs/.
+// Functions on one column and on a block of columns, of any type that is copied. Their proofs share the laws of proofs/.
 #![tactic(auto)]
 
 ghost use Rattle.std.specs.Prelude.{◌≡◌, ℕ, ◌+◌, ◌≤◌, ◌<◌, ◌*◌, length, take, drop};
@@ -13,91 +13,121 @@ pub fn next_marked(mask: &[usize], from: usize, n: usize) -> usize
     requires { (from ≤ n) × (n ≤ length mask.now) }
     ensures { NextMarked mask.now from n result }
 {
-    let mut i: usize = from;
-    while i < n {
+    for i in from..n {
         if mask[i] == 1 {
             return i;
         }
-        i += 1;
     }
     n
 }
 
 // Moves len places of s from `from` on to `to`, which is not behind them.
-fn shift_usize(to: usize, from: usize, len: usize, s: &mut [usize])
+fn shift<T: Copy>(to: usize, from: usize, len: usize, s: &mut [T])
     requires { (to ≤ from) × (from + len ≤ length s.old) }
-    ensures { Shifted 0 to from len s.old s.new }
+    ensures { (d : T) → Shifted d to from len s.old s.new }
 {
-    let mut i: usize = 0;
-    while i < len {
+    for i in 0..len {
         s[to + i] = s[from + i];
-        i += 1;
     }
 }
 
 // Copies src to the front of dst.
-pub fn copy_usize(src: &[usize], dst: &mut [usize])
+pub fn copy<T: Copy>(src: &[T], dst: &mut [T])
     requires { length src.now ≤ length dst.old }
     ensures { take (length src.now) dst.new ≡ src.now }
 {
-    let mut i: usize = 0;
-    while i < src.len() {
-        dst[i] = src[i];
-        i += 1;
+    dst[..src.len()].copy_from_slice(src);
+}
+
+// What a place holds that is not in use.
+pub trait Zero: Copy {
+    ghost zero: { Self };
+
+    fn zero() -> Self
+        ensures { result ≡ zero };
+}
+
+impl Zero for f32 {
+    ghost zero = { zero32 };
+
+    fn zero() -> f32 {
+        0.0
+    }
+}
+
+impl Zero for u8 {
+    ghost zero = { 0 };
+
+    fn zero() -> u8 {
+        0
+    }
+}
+
+impl Zero for u32 {
+    ghost zero = { 0 };
+
+    fn zero() -> u32 {
+        0
+    }
+}
+
+impl Zero for usize {
+    ghost zero = { 0 };
+
+    fn zero() -> usize {
+        0
     }
 }
 
 // Puts 0 into the places of s from n on.
-pub fn clear_usize(n: usize, s: &mut [usize])
+pub fn clear<T: Zero>(n: usize, s: &mut [T])
     requires { n ≤ length s.old }
-    ensures { s.new ≡ padded (length s.old) 0 (take n s.old) }
+    ensures { s.new ≡ padded (length s.old) T.zero (take n s.old) }
 {
-    let mut i: usize = n;
-    while i < s.len() {
-        s[i] = 0;
-        i += 1;
+    let zero = T::zero();
+    for i in n..s.len() {
+        s[i] = zero;
     }
 }
 
 // Moves len rows from `from` on to `to`, in each column.
-pub fn shift_block_usize(
+pub fn shift_block<T: Copy>(
     to: usize,
     from: usize,
     len: usize,
     width: usize,
     stride: usize,
-    s: &mut [usize],
+    s: &mut [T],
 )
     requires { (to ≤ from) × (from + len ≤ stride) × (width * stride ≤ length s.old) }
-    ensures { BlockShifted 0 to from len width stride s.old s.new }
+    ensures { (d : T) → BlockShifted d to from len width stride s.old s.new }
 {
-    let mut c: usize = 0;
     let mut o: usize = 0;
-    while c < width {
-        shift_usize(o + to, o + from, len, s);
+    for c in 0..width {
+        shift(o + to, o + from, len, s);
         o += stride;
-        c += 1;
     }
 }
 
 // Removes the marked places from the first n of each of width columns, and returns how many are left. What stands before the first marked place is not touched, and what stays between two is moved as a whole.
-pub fn keep_block_usize(
+pub fn keep_block<T: Copy>(
     mask: &[usize],
     n: usize,
     width: usize,
     stride: usize,
-    s: &mut [usize],
+    s: &mut [T],
 ) -> usize
     requires { (n ≤ stride) × (n ≤ length mask.now) × (width * stride ≤ length s.old) × (0 < width) }
-    ensures { BlockKept 0 mask.now n width stride s.old s.new result }
+    ensures { (d : T) → BlockKept d mask.now n width stride s.old s.new result }
 {
     let mut r: usize = next_marked(mask, 0, n);
     let mut w: usize = r;
+    // A turn passes a whole run of rows, so no range steps by it.
     while r < n {
         let a = r + 1;
         let b = next_marked(mask, a, n);
         let len = b - a;
-        shift_block_usize(w, a, len, width, stride, s);
+        shift_block(w, a, len, width, stride, s);
         w += len;
         r = b;
     }
@@ -105,50 +135,44 @@ pub fn keep_block_usize(
 }
 
 // Copies the columns of src, of n places each, to the fronts of those of dst.
-pub fn copy_block_usize(src: &[usize], n: usize, width: usize, stride: usize, dst: &mut [usize])
+pub fn copy_block<T: Copy>(src: &[T], n: usize, width: usize, stride: usize, dst: &mut [T])
     requires { (n ≤ stride) × (width * n ≤ length src.now) × (width * stride ≤ length dst.old) }
-    ensures { BlockCopied 0 n width stride src.now dst.new }
+    ensures { (d : T) → BlockCopied d n width stride src.now dst.new }
 {
-    let mut c: usize = 0;
     let mut o: usize = 0;
     let mut a: usize = 0;
-    while c < width {
+    for c in 0..width {
         let b = a + n;
         let e = o + stride;
-        copy_usize(&src[a..b], &mut dst[o..e]);
+        copy(&src[a..b], &mut dst[o..e]);
         a = b;
         o = e;
-        c += 1;
     }
 }
 
 // Puts 0 behind the first n places of each column, and behind the columns.
-pub fn clear_block_usize(n: usize, width: usize, stride: usize, s: &mut [usize])
+pub fn clear_block<T: Zero>(n: usize, width: usize, stride: usize, s: &mut [T])
     requires { (n ≤ stride) × (width * stride ≤ length s.old) }
-    ensures { s.new ≡ block_of (length s.old) width stride 0 (λ c. take n (drop (c * stride) s.old)) }
+    ensures { s.new ≡ block_of (length s.old) width stride T.zero (λ c. take n (drop (c * stride) s.old)) }
 {
-    let mut c: usize = 0;
     let mut o: usize = 0;
-    while c < width {
+    for c in 0..width {
         let e = o + stride;
-        clear_usize(n, &mut s[o..e]);
+        clear(n, &mut s[o..e]);
         o = e;
-        c += 1;
     }
-    clear_usize(o, s);
+    clear(o, s);
 }
 
 // Copies row v to row i in each column.
-pub fn copy_row_usize(v: usize, i: usize, width: usize, stride: usize, s: &mut [usize])
+pub fn copy_row<T: Copy>(v: usize, i: usize, width: usize, stride: usize, s: &mut [T])
     requires { (v < i) × (i < stride) × (width * stride ≤ length s.old) }
-    ensures { RowCopied 0 v i width stride s.old s.new }
+    ensures { (d : T) → RowCopied d v i width stride s.old s.new }
 {
-    let mut c: usize = 0;
     let mut o: usize = 0;
-    while c < width {
+    for c in 0..width {
         s[o + i] = s[o + v];
         o += stride;
-        c += 1;
     }
 }
 
@@ -157,14 +181,12 @@ pub fn row_holds(v: usize, i: usize, k: usize, size: usize, s: &[usize]) -> bool
     requires { RowIn k size i (length s.now) }
     ensures { result ≡ stands v (row_at k size s.now i) }
 {
-    let mut c: usize = 0;
     let mut o: usize = 0;
-    while c < k {
+    for c in 0..k {
         if s[o + i] == v {
             return true;
         }
         o += size;
-        c += 1;
     }
     false
 }
@@ -174,119 +196,11 @@ pub fn turn_row(i: usize, v: usize, w: usize, k: usize, size: usize, s: &mut [us
     requires { RowIn k size i (length s.old) }
     ensures { RowTurned k size i v w s.old s.new }
 {
-    let mut c: usize = 0;
     let mut o: usize = 0;
-    while c < k {
+    for c in 0..k {
         if s[o + i] == v {
             s[o + i] = w;
         }
         o += size;
-        c += 1;
-    }
-}
-
-// Moves len places of s from `from` on to `to`, which is not behind them.
-fn shift_f32(to: usize, from: usize, len: usize, s: &mut [f32])
-    requires { (to ≤ from) × (from + len ≤ length s.old) }
-    ensures { Shifted nan to from len s.old s.new }
-{
-    let mut i: usize = 0;
-    while i < len {
-        s[to + i] = s[from + i];
-        i += 1;
-    }
-}
-
-// Copies src to the front of dst.
-pub fn copy_f32(src: &[f32], dst: &mut [f32])
-    requires { length src.now ≤ length dst.old }
-    ensures { take (length src.now) dst.new ≡ src.now }
-{
-    let mut i: usize = 0;
-    while i < src.len() {
-        dst[i] = src[i];
-        i += 1;
-    }
-}
-
-// Puts 0 into the places of s from n on.
-pub fn clear_f32(n: usize, s: &mut [f32])
-    requires { n ≤ length s.old }
-    ensures { s.new ≡ padded (length s.old) zero32 (take n s.old) }
-{
-    let mut i: usize = n;
-    while i < s.len() {
-        s[i] = 0.0;
-        i += 1;
-    }
-}
-
-// Moves len rows from `from` on to `to`, in each column.
-pub fn shift_block_f32(
-    to: usize,
-    from: usize,
-    len: usize,
-    width: usize,
-    stride: usize,
-    s: &mut [f32],
-)
-    requires { (to ≤ from) × (from + len ≤ stride) × (width * stride ≤ length s.old) }
-    ensures { BlockShifted nan to from len width stride s.old s.new }
-{
-    let mut c: usize = 0;
-    let mut o: usize = 0;
-    while c < width {
-        shift_f32(o + to, o + from, len, s);
-        o += stride;
-        c += 1;
-    }
-}
-
-// Copies the columns of src, of n places each, to the fronts of those of dst.
-pub fn copy_block_f32(src: &[f32], n: usize, width: usize, stride: usize, dst: &mut [f32])
-    requires { (n ≤ stride) × (width * n ≤ length src.now) × (width * stride ≤ length dst.old) }
-    ensures { BlockCopied nan n width stride src.now dst.new }
-{
-    let mut c: usize = 0;
-    let mut o: usize = 0;
-    let mut a: usize = 0;
-    while c < width {
-        let b = a + n;
-        let e = o + stride;
-        copy_f32(&src[a..b], &mut dst[o..e]);
-        a = b;
-        o = e;
-        c += 1;
-    }
-}
-
-// Puts 0 behind the first n places of each column, and behind the columns.
-pub fn clear_block_f32(n: usize, width: usize, stride: usize, s: &mut [f32])
-    requires { (n ≤ stride) × (width * stride ≤ length s.old) }
-    ensures { s.new ≡ block_of (length s.old) width stride zero32 (λ c. take n
-        (drop (c * stride) s.old)) }
-{
-    let mut c: usize = 0;
-    let mut o: usize = 0;
-    while c < width {
-        let e = o + stride;
-        clear_f32(n, &mut s[o..e]);
-        o = e;
-        c += 1;
-    }
-    clear_f32(o, s);
-}
-
-// Copies row v to row i in each column.
-pub fn copy_row_f32(v: usize, i: usize, width: usize, stride: usize, s: &mut [f32])
-    requires { (v < i) × (i < stride) × (width * stride ≤ length s.old) }
-    ensures { RowCopied nan v i width stride s.old s.new }
-{
-    let mut c: usize = 0;
-    let mut o: usize = 0;
-    while c < width {
-        s[o + i] = s[o + v];
-        o += stride;
-        c += 1;
     }
 }

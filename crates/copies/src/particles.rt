@@ -32,14 +32,12 @@ pub fn copy_particles(
     let size = points.len() / mesh::POINT_COLUMNS;
     let mass = points[4 * size + v];
     let copies = count - 1;
-    let mut g: usize = 0;
-    while g < copies {
+    for g in 0..copies {
         let own = split_plan::weight_of(g + 1, parts, groups, measures);
         let m = split_plan::mass_of(mass, own, total, count);
         let w = float::inverse::inv(m);
         let at = n + g;
         mesh::rows::append_copy(v, at, m, w, points, roots);
-        g += 1;
     }
     let own = split_plan::weight_of(0, parts, groups, measures);
     let m = split_plan::mass_of(mass, own, total, count);

@@ -38,8 +38,7 @@ use Rattle.mesh.specs.declared.Counts.{Counts}
 use Rattle.mesh.specs.declared.Rooms.{Rooms}
 use Rattle.work.specs.Working.{SettleRoom, Within, Roomed, Ready, Works}
 use Rattle.work.specs.Places.{CornersIn, EndsIn, SidesIn}
-use Rattle.work.specs.declared.Ran.{Ran}
-use Rattle.work.specs.declared.Ran.TheVariants.{Refused, Done}
+use Rattle.work.specs.Ran.{Ran}
 use Rattle.work.proofs.Placed.{corners_in, ends_in, sides_in}
 use Rattle.work.proofs.Runs.{works_stay, works_as, works_then, works_refused, works_known}
 use Rattle.elements.specs.Table.{kind_is}
@@ -49,10 +48,12 @@ use Rattle.links.specs.Linked.{MeshLinked}
 use Rattle.tear.specs.Loads.{LoadsRead}
 use Rattle.crack.specs.Bodies.{NarrowRoom, EndsRoom, EndsKept, ends_listed, CracksTold, crack_turns, crack_end}
 use Rattle.lists.proofs.Truths.{of_not, of_not_false}
+use Rattle.std.specs.Prelude.{Ok, Err}
+use Rattle.mesh.specs.declared.refusals.Refusal.{Refusal}
 
 -- ---- what a worker leaves is ready for the next
 
-module _ {f : Run → Run} {L : Rooms} {W : World} {at : Counts → World} {k : Counts} (F : Works f L W at (Done k)) (l : List Entry) (words : W.log ≡ map words_of l) where
+module _ {f : Run → Run} {L : Rooms} {W : World} {at : Counts → World} {k : Counts} (F : Works f L W at (Ok k)) (l : List Entry) (words : W.log ≡ map words_of l) where
   -- a run that the blocks held
   abbrev begun : Run
   begun = record { mesh = W.mesh; log = l; needs = [] }
@@ -113,17 +114,17 @@ cracks_count K ls min R (ab ∷ abs) = cracks_count K ls min (crack_edge K ls mi
 
 module _ (K : Kind) (min t : ℕ) (loads : List Float) (L : Rooms) where
   -- none
-  pub cracks_none : {at : Counts → World} (k : Counts) → Within k L → CracksTold K min t [] loads L (at k) at (Done k)
+  pub cracks_none : {at : Counts → World} (k : Counts) → Within k L → CracksTold K min t [] loads L (at k) at (Ok k)
   unfolding fold
   cracks_none k b = record { works = λ ls h. works_stay k b }
 
   -- some behind others
-  pub cracks_then : {W : World} {at at' : Counts → World} {k : Counts} {r : Ran} (abs cds : List (ℕ × ℕ)) → CracksTold K min t abs loads L W at (Done k) → CracksTold K min t cds loads L (at k) at' r
+  pub cracks_then : {W : World} {at at' : Counts → World} {k : Counts} {r : Ran} (abs cds : List (ℕ × ℕ)) → CracksTold K min t abs loads L W at (Ok k) → CracksTold K min t cds loads L (at k) at' r
       → CracksTold K min t (abs ++ cds) loads L W at' r
   cracks_then abs cds F G = record { works = λ ls h. works_as (λ R e. sym (fold_append (crack_edge K ls min) R abs cds)) (works_then (F.works ls h) (G.works ls h)) }
 
   -- a room lacks, and so it does whatever is to come
-  pub cracks_refused : {W : World} {at at' : Counts → World} {c : ℕ} (abs cds : List (ℕ × ℕ)) → CracksTold K min t abs loads L W at (Refused c) → CracksTold K min t (abs ++ cds) loads L W at' (Refused c)
+  pub cracks_refused : {W : World} {at at' : Counts → World} {c : Refusal} (abs cds : List (ℕ × ℕ)) → CracksTold K min t abs loads L W at (Err c) → CracksTold K min t (abs ++ cds) loads L W at' (Err c)
   cracks_refused {at = at} abs cds F =
       record {
         works = λ ls h.
@@ -225,12 +226,12 @@ module _ (K : Kind) {L : Rooms} {W : World} (t : Bool) (found : (S : Run) → W.
   end_split e F =
       works_as (λ S h. sym (ap (λ (s : Bool). pick s S (remove_straddlers_of K (split_pinched_of K S))) (of_not (empty (splits_of S.log)) (sym e ∙ found S (ap (λ (x : World). x.log) h))))) F
 
-  pub end_refused : {at at' : Counts → World} (r : Ran) (c : ℕ) → r ≡ Refused c → t ≡ true → Works (split_pinched_of K) L W at r → Works (crack_end K) L W at' r
+  pub end_refused : {at at' : Counts → World} (r : Ran) (c : Refusal) → r ≡ Err c → t ≡ true → Works (split_pinched_of K) L W at r → Works (crack_end K) L W at' r
   end_refused {at} {at'} r c known e F =
-      works_known (Refused c) r (sym known) (end_split e (works_refused (remove_straddlers_of K) {at = at} {at' = at'} (λ R. straddlers_onward K (split_pinched_of K R)) (works_known r (Refused c) known F)))
+      works_known (Err c) r (sym known) (end_split e (works_refused (remove_straddlers_of K) {at = at} {at' = at'} (λ R. straddlers_onward K (split_pinched_of K R)) (works_known r (Err c) known F)))
 
-  pub end_done : {at at' : Counts → World} (r : Ran) (k : Counts) {s : Ran} → r ≡ Done k → t ≡ true → Works (split_pinched_of K) L W at r → Works (remove_straddlers_of K) L (at k) at' s → Works (crack_end K) L W at' s
-  end_done r k known e F G = end_split e (works_then (works_known r (Done k) known F) G)
+  pub end_done : {at at' : Counts → World} (r : Ran) (k : Counts) {s : Ran} → r ≡ Ok k → t ≡ true → Works (split_pinched_of K) L W at r → Works (remove_straddlers_of K) L (at k) at' s → Works (crack_end K) L W at' s
+  end_done r k known e F G = end_split e (works_then (works_known r (Ok k) known F) G)
 
 -- the pinched are split by the kind of the mesh: there are some of triangles alone
 module _ (kind : Elemental) where
@@ -240,13 +241,13 @@ module _ (kind : Elemental) where
   pub pinched_split : {L : Rooms} {W : World} {at : Counts → World} {r : Ran} → kind ≡ Facets → Works (split_pinched_of Triangles) L W at r → Works (split_pinched_of (kind_is kind)) L W at r
   pinched_split {L} {W} {at} {r} q F = subst (λ (z : Elemental). Works (split_pinched_of (kind_is z)) L W at r) (sym q) F
 
-  pub pinched_straps : {L : Rooms} (at : Counts → World) (k : Counts) → kind ≡ Segments → Within k L → Works (split_pinched_of (kind_is kind)) L (at k) at (Done k)
+  pub pinched_straps : {L : Rooms} (at : Counts → World) (k : Counts) → kind ≡ Segments → Within k L → Works (split_pinched_of (kind_is kind)) L (at k) at (Ok k)
   unfolding split_pinched_of
-  pinched_straps {L} at k q w = subst (λ (z : Elemental). Works (split_pinched_of (kind_is z)) L (at k) at (Done k)) (sym q) (works_stay k w)
+  pinched_straps {L} at k q w = subst (λ (z : Elemental). Works (split_pinched_of (kind_is z)) L (at k) at (Ok k)) (sym q) (works_stay k w)
 
-  pub pinched_nothing : {L : Rooms} (at : Counts → World) (k : Counts) → kind ≡ Neither → Within k L → Works (split_pinched_of (kind_is kind)) L (at k) at (Done k)
+  pub pinched_nothing : {L : Rooms} (at : Counts → World) (k : Counts) → kind ≡ Neither → Within k L → Works (split_pinched_of (kind_is kind)) L (at k) at (Ok k)
   unfolding split_pinched_of
-  pinched_nothing {L} at k q w = subst (λ (z : Elemental). Works (split_pinched_of (kind_is z)) L (at k) at (Done k)) (sym q) (works_stay k w)
+  pinched_nothing {L} at k q w = subst (λ (z : Elemental). Works (split_pinched_of (kind_is z)) L (at k) at (Ok k)) (sym q) (works_stay k w)
 
 -- the end goes on from what is before it
 end_onward : (K : Kind) (S : Run) → Onward S (crack_end K S)
@@ -279,9 +280,9 @@ straddlers_room k R p r c v e l o g A =
 
 -- ---- what the torn edges leave
 
-module _ (K : Kind) (min t : ℕ) (abs : List (ℕ × ℕ)) (loads : List Float) (L : Rooms) (W : World) (at : Counts → World) (k : Counts) (F : CracksTold K min t abs loads L W at (Done k)) (l : List Entry) (words : W.log ≡ map words_of l) where
+module _ (K : Kind) (min t : ℕ) (abs : List (ℕ × ℕ)) (loads : List Float) (L : Rooms) (W : World) (at : Counts → World) (k : Counts) (F : CracksTold K min t abs loads L W at (Ok k)) (l : List Entry) (words : W.log ≡ map words_of l) where
   -- by the loads that are in the table
-  pub cracked : Works (λ (R : Run). fold (crack_edge K (take t loads) min) R abs) L W at (Done k)
+  pub cracked : Works (λ (R : Run). fold (crack_edge K (take t loads) min) R abs) L W at (Ok k)
   cracked = F.works (take t loads) (λ q. refl)
 
   pub cracks_ready : (k₀ : Counts) (I I' : Lent) → Ready L k₀ I W.mesh → I' ≡ I → Ready L k I' (at k).mesh
@@ -326,7 +327,7 @@ module _ (K : Kind) (min : ℕ) (is : List ℕ) (k : Counts) (points : List Floa
       (F.works (loads_of K held) loads_held)
 
 -- of an empty list there is nothing to crack
-pub turns_none : (K : Kind) (min : ℕ) (is : List ℕ) {L : Rooms} {at : Counts → World} (k : Counts) → length is ≡ 0 → Within k L → Works (crack_turns K min is) L (at k) at (Done k)
+pub turns_none : (K : Kind) (min : ℕ) (is : List ℕ) {L : Rooms} {at : Counts → World} (k : Counts) → length is ≡ 0 → Within k L → Works (crack_turns K min is) L (at k) at (Ok k)
 unfolding crack_turns torn_ends sift fold
 turns_none K min [] k e w = works_stay k w
 turns_none K min (i ∷ is) k e w = absurd (omega arith)
@@ -342,15 +343,15 @@ module _ (K : Kind) (min : ℕ) (is : List ℕ) where
   crack_is R = refl
 
   module _ {L : Rooms} {W : World} {at : Counts → World} (r : Ran) (F : Works (crack_turns K min is) L W at r) where
-    pub body_refused : {at' : Counts → World} (c : ℕ) → r ≡ Refused c → Works (crack K min is) L W at' r
+    pub body_refused : {at' : Counts → World} (c : Refusal) → r ≡ Err c → Works (crack K min is) L W at' r
     body_refused {at'} c known =
-        works_known (Refused c) r (sym known)
-        (works_as (λ R e. crack_is R) (works_refused (crack_end K) {at = at} {at' = at'} (λ R. end_onward K (crack_turns K min is R)) (works_known r (Refused c) known F)))
+        works_known (Err c) r (sym known)
+        (works_as (λ R e. crack_is R) (works_refused (crack_end K) {at = at} {at' = at'} (λ R. end_onward K (crack_turns K min is R)) (works_known r (Err c) known F)))
 
-    pub body_done : {at' : Counts → World} (k : Counts) {s : Ran} → r ≡ Done k → Works (crack_end K) L (at k) at' s → Works (crack K min is) L W at' s
-    body_done k known G = works_as (λ R e. crack_is R) (works_then (works_known r (Done k) known F) G)
+    pub body_done : {at' : Counts → World} (k : Counts) {s : Ran} → r ≡ Ok k → Works (crack_end K) L (at k) at' s → Works (crack K min is) L W at' s
+    body_done k known G = works_as (λ R e. crack_is R) (works_then (works_known r (Ok k) known F) G)
 
   -- no edge is torn, and nothing split: t tells whether anything did
   pub crack_none : {L : Rooms} (at : Counts → World) (k : Counts) (t : Bool) → ((S : Run) → (at k).log ≡ map words_of S.log → t ≡ not (empty (splits_of S.log))) → length is ≡ 0 → t ≡ false → Within k L
-      → Works (crack K min is) L (at k) at (Done k)
+      → Works (crack K min is) L (at k) at (Ok k)
   crack_none at k t found e f w = works_as (λ R h. crack_is R) (works_then (turns_none K min is {at = at} k e w) (end_unsplit K t found {at = at} f (works_stay {at = at} k w)))

@@ -14,18 +14,19 @@ use Rattle.mesh.specs.Filled.{lent}
 use Rattle.mesh.specs.declared.Counts.{Counts}
 use Rattle.mesh.specs.declared.Rooms.{Rooms}
 use Rattle.work.specs.Working.{Ready}
-use Rattle.work.specs.declared.Ran.{Ran}
-use Rattle.work.specs.declared.Ran.TheVariants.{Refused, Done}
+use Rattle.work.specs.Ran.{Ran}
 use Rattle.work.proofs.Placed.{triangles_count}
 use Rattle.crack.specs.Bodies.{ends_listed, CracksRoom, CracksTold}
 use Rattle.crack.proofs.BodyLaws.{cracks_none, cracks_then, cracks_refused, cracks_ready, cracks_entries, cracks_words, cracks_triangles, ends_step, ends_rest}
+use Rattle.std.specs.Prelude.{Ok, Err}
+use Rattle.mesh.specs.declared.refusals.Refusal.{Refusal}
 
 -- at the head of the loop: the first i numbers of the list are dealt with, and no room lacked
 pub record ListedTo (K : Kind) (min : ℕ) (is : List ℕ) (e : ℕ) (from to : List ℕ) (loads : List Float) (L : Rooms) (k₀ : Counts) (points₀ : List Float) (roots₀ corners₀ : List ℕ) (volumes : List Float) (ends₀ : List ℕ) (lengths₀ : List Float) (outline₀ log₀ : List ℕ)
     (points : List Float) (roots corners ends : List ℕ) (lengths : List Float) (outline log : List ℕ) (k : Counts) (i : ℕ) : Type 0 where
   pub inside : i ≤ length is
   pub same : lent points roots corners volumes ends lengths outline log ≡ lent points₀ roots₀ corners₀ volumes ends₀ lengths₀ outline₀ log₀
-  pub told : CracksTold K min k₀.triangles (ends_listed e from to (take i is)) loads L (world_at k₀ points₀ roots₀ corners₀ volumes ends₀ lengths₀ outline₀ log₀) (λ q. world_at q points roots corners volumes ends lengths outline log) (Done k)
+  pub told : CracksTold K min k₀.triangles (ends_listed e from to (take i is)) loads L (world_at k₀ points₀ roots₀ corners₀ volumes ends₀ lengths₀ outline₀ log₀) (λ q. world_at q points roots corners volumes ends lengths outline log) (Ok k)
 
 module _ (K : Kind) (min : ℕ) (is : List ℕ) (e : ℕ) (from to : List ℕ) (loads : List Float) (L : Rooms) (k₀ : Counts) (points₀ : List Float) (roots₀ corners₀ : List ℕ) (volumes : List Float) (ends₀ : List ℕ) (lengths₀ : List Float) (outline₀ log₀ : List ℕ)
     (Y : Ready L k₀ (lent points₀ roots₀ corners₀ volumes ends₀ lengths₀ outline₀ log₀) (mesh_at k₀ points₀ roots₀ corners₀ volumes ends₀ lengths₀ outline₀))
@@ -87,7 +88,7 @@ module _ (K : Kind) (min : ℕ) (is : List ℕ) (e : ℕ) (from to : List ℕ) (
           (cracks_then K min k₀.triangles loads L (ends_listed e from to (take i is)) (ends_listed e from to (get_or is i 0 ∷ [])) O.told
           (subst (λ (t : ℕ). CracksTold K min t (ends_listed e from to (get_or is i 0 ∷ [])) loads L (at k) at' r) to_triangles G))
 
-      pub to_step : (k' : Counts) → r ≡ Done k' → lent points' roots' corners' volumes ends' lengths' outline' log' ≡ lent points roots corners volumes ends lengths outline log
+      pub to_step : (k' : Counts) → r ≡ Ok k' → lent points' roots' corners' volumes ends' lengths' outline' log' ≡ lent points roots corners volumes ends lengths outline log
           → ListedTo K min is e from to loads L k₀ points₀ roots₀ corners₀ volumes ends₀ lengths₀ outline₀ log₀ points' roots' corners' ends' lengths' outline' log' k' (i + 1)
       to_step k' known same =
           record {
@@ -97,13 +98,13 @@ module _ (K : Kind) (min : ℕ) (is : List ℕ) (e : ℕ) (from to : List ℕ) (
           }
 
       -- a room lacks
-      pub to_stop : (c : ℕ) → r ≡ Refused c → CracksTold K min k₀.triangles (ends_listed e from to is) loads L world₀ at' r
+      pub to_stop : (c : Refusal) → r ≡ Err c → CracksTold K min k₀.triangles (ends_listed e from to is) loads L world₀ at' r
       to_stop c known =
           subst (λ (x : Ran). CracksTold K min k₀.triangles (ends_listed e from to is) loads L world₀ at' x) (sym known)
-          (subst (λ (abs : List (ℕ × ℕ)). CracksTold K min k₀.triangles abs loads L world₀ at' (Refused c)) (ends_rest e from to is (i + 1))
+          (subst (λ (abs : List (ℕ × ℕ)). CracksTold K min k₀.triangles abs loads L world₀ at' (Err c)) (ends_rest e from to is (i + 1))
           (cracks_refused K min k₀.triangles loads L {at = at'} (ends_listed e from to (take (i + 1) is)) (ends_listed e from to (drop (i + 1) is))
           (subst (λ (x : Ran). CracksTold K min k₀.triangles (ends_listed e from to (take (i + 1) is)) loads L world₀ at' x) known more)))
 
     -- all of them
-    pub to_done : length is ≤ i → CracksTold K min k₀.triangles (ends_listed e from to is) loads L world₀ (λ q. world_at q points roots corners volumes ends lengths outline log) (Done k)
-    to_done h = subst (λ (js : List ℕ). CracksTold K min k₀.triangles (ends_listed e from to js) loads L world₀ at (Done k)) (take_all i is h) O.told
+    pub to_done : length is ≤ i → CracksTold K min k₀.triangles (ends_listed e from to is) loads L world₀ (λ q. world_at q points roots corners volumes ends lengths outline log) (Ok k)
+    to_done h = subst (λ (js : List ℕ). CracksTold K min k₀.triangles (ends_listed e from to js) loads L world₀ at (Ok k)) (take_all i is h) O.told

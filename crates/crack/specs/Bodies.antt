@@ -14,7 +14,7 @@ use Rattle.mesh.specs.Widths.{end_columns}
 use Rattle.mesh.specs.Limits.{particle_limit}
 use Rattle.work.specs.Working.{Works, Logged}
 use Rattle.work.specs.Places.{EndsIn}
-use Rattle.work.specs.declared.Ran.{Ran}
+use Rattle.work.specs.Ran.{Ran}
 use Rattle.tear.specs.Tried.{LoadsLong}
 
 -- ---- the ends of the torn edges in the input

@@ -19,10 +19,8 @@ fn narrow(src: &[usize], dst: &mut [u16])
     requires { NarrowRoom src.now (length dst.old) }
     ensures { take (length src.now) dst.new ≡ src.now }
 {
-    let mut i: usize = 0;
-    while i < src.len() {
+    for i in 0..src.len() {
         dst[i] = src[i] as u16;
-        i += 1;
     }
 }
 
@@ -65,7 +63,7 @@ fn crack_numbered(
         (λ q. world_behind q points roots corners volumes ends lengths outline log) result × LinkedBehind K corners ends outline links result }
 {
     if number >= e {
-        return Ran::Done(k);
+        return Ok(k);
     }
     tornedge::crack_edge(
         kind,
@@ -115,19 +113,14 @@ fn crack_listed(
         (λ q. world_behind q points roots corners volumes ends lengths outline log) result × LinkedBehind K corners ends outline links result }
 {
     let mut counts = k;
-    let mut i: usize = 0;
-    while i < torn.len() {
-        let ran = crack_numbered(
+    for i in 0..torn.len() {
+        let next = crack_numbered(
             kind, minimum, torn[i], e, from, to, loads, counts, room, points, roots, corners,
             volumes, ends, lengths, outline, log, links,
-        );
-        let Ran::Done(next) = ran else {
-            return ran;
-        };
+        )?;
         counts = next;
-        i += 1;
     }
-    Ran::Done(counts)
+    Ok(counts)
 }
 
 // Cracks the torn edges of a list in turn, by their ends and the loads of the input. The tables of the ends first hold the links that the loads are read by.
@@ -202,8 +195,8 @@ fn split_pinched(
                 &mut list, links,
             )
         }
-        Kind::Straps => Ran::Done(k),
-        Kind::Nothing => Ran::Done(k),
+        Kind::Straps => Ok(k),
+        Kind::Nothing => Ok(k),
     }
 }
 
@@ -227,14 +220,11 @@ fn finish(
     ensures { WorksIn (crack_end (kind_is kind)) room k points roots corners volumes ends lengths outline log result }
 {
     if !marks::particles::any_split(k.log, log) {
-        return Ran::Done(k);
+        return Ok(k);
     }
-    let ran = split_pinched(
+    let next = split_pinched(
         kind, k, room, points, roots, corners, volumes, ends, lengths, outline, log, links,
-    );
-    let Ran::Done(next) = ran else {
-        return ran;
-    };
+    )?;
     straddlers::across::remove_straddlers(
         kind, next, room, corners, volumes, ends, lengths, outline, log,
     )
@@ -262,13 +252,10 @@ fn crack_linked(
     ensures { WorksIn (crack (kind_is kind) minimum torn.now) room k points roots corners volumes ends lengths outline log
         result }
 {
-    let ran = crack_torn(
+    let counts = crack_torn(
         kind, minimum, torn, k, room, points, roots, corners, volumes, ends, lengths, outline, log,
         links,
-    );
-    let Ran::Done(counts) = ran else {
-        return ran;
-    };
+    )?;
     finish(
         kind, counts, room, points, roots, corners, volumes, ends, lengths, outline, log, links,
     )
@@ -296,7 +283,7 @@ pub fn crack_body(
 {
     if torn.len() == 0 {
         if !marks::particles::any_split(k.log, log) {
-            return Ran::Done(k);
+            return Ok(k);
         }
     }
     let mut links = [0u16; links::PLACES];

@@ -28,8 +28,7 @@ use Rattle.mesh.specs.declared.Rooms.{Rooms}
 use Rattle.mesh.specs.Widths.{point_columns}
 use Rattle.elements.specs.Workers.{marked}
 use Rattle.work.specs.Working.{Within, Went}
-use Rattle.work.specs.declared.Ran.{Ran}
-use Rattle.work.specs.declared.Ran.TheVariants.{Refused, Done}
+use Rattle.work.specs.Ran.{Ran}
 use Rattle.work.proofs.Placed.{ends_in}
 use Rattle.marks.proofs.MarkLaws.{marked_one, marks_more}
 use Rattle.insert.specs.Shares.{Stands}
@@ -39,6 +38,9 @@ use Rattle.insert.specs.Steps.{StepRoom, InsertTold}
 use Rattle.crossing.specs.Crossings.{CrossingsRoom}
 use Rattle.crossing.specs.Crossed.{ran_of, StrapMarks, Crosses, CrossTold, CrossRoom}
 use Rattle.insert.specs.declared.plan.Plan.{Plan}
+use Rattle.std.specs.Prelude.{Ok, Err}
+use Rattle.mesh.specs.declared.refusals.Refusal.{Refusal}
+use Rattle.mesh.specs.Refused.{number_of}
 
 -- ---- what the blocks have room for
 
@@ -187,7 +189,7 @@ module _ (f : Float) (number : ℕ) (t : Float) (L : Rooms) (k : Counts) (points
             subst (λ (S : Strapping). Went L (ran_of S) (at cs vs) ran) (inserted_is f here R b s plan (plan_is cs vs R w) (sym y ∙ test_is cs vs R w)) ((I.works cs vs).went R w z)
 
         marks : (cs : List ℕ) (vs : List Float) (S : Strapping) → world cs vs k ≡ world_of (ran_of S).mesh (ran_of S).log → first_fault (as_rooms L) (ran_of S).needs ≡ 0 → StrapMarks S bends snapped
-            → (q : Counts) → ran ≡ Done q → StrapMarks (fold (crossed f) S (here ∷ [])) bends' snapped
+            → (q : Counts) → ran ≡ Ok q → StrapMarks (fold (crossed f) S (here ∷ [])) bends' snapped
         marks cs vs (strapping R b s) w z A q e =
             let over = bends_over R.mesh plan.row.a plan.row.b in
             subst (λ (S : Strapping). StrapMarks S bends' snapped) (inserted_is f here R b s plan (plan_is cs vs R w) (sym y ∙ test_is cs vs R w))
@@ -199,16 +201,16 @@ module _ (f : Float) (number : ℕ) (t : Float) (L : Rooms) (k : Counts) (points
 
   -- or its near end is marked
   pub cross_snaps : r ≡ false → (x : ℕ) → x ≡ pick (lt t half) plan.row.a plan.row.b → x < length snapped → Within k L
-      → CrossTold f (here ∷ []) L k points roots ends lengths outline log bends snapped points roots ends lengths outline log bends (set snapped x 1) (Done k)
+      → CrossTold f (here ∷ []) L k points roots ends lengths outline log bends snapped points roots ends lengths outline log bends (set snapped x 1) (Ok k)
   cross_snaps y x n l b = record { crosses = λ cs vs. record { went = went cs vs; marks = marks cs vs } }
     where
       went : (cs : List ℕ) (vs : List Float) (S : Strapping) → world cs vs k ≡ world_of (ran_of S).mesh (ran_of S).log → first_fault (as_rooms L) (ran_of S).needs ≡ 0
-          → Went L (ran_of (fold (crossed f) S (here ∷ []))) (world cs vs) (Done k)
+          → Went L (ran_of (fold (crossed f) S (here ∷ []))) (world cs vs) (Ok k)
       went cs vs (strapping R bs s) w z =
-          subst (λ (S : Strapping). Went L (ran_of S) (world cs vs) (Done k)) (snapped_is f here R bs s plan x (plan_is cs vs R w) (sym y ∙ test_is cs vs R w) n) (z, b, w)
+          subst (λ (S : Strapping). Went L (ran_of S) (world cs vs) (Ok k)) (snapped_is f here R bs s plan x (plan_is cs vs R w) (sym y ∙ test_is cs vs R w) n) (z, b, w)
 
       marks : (cs : List ℕ) (vs : List Float) (S : Strapping) → world cs vs k ≡ world_of (ran_of S).mesh (ran_of S).log → first_fault (as_rooms L) (ran_of S).needs ≡ 0 → StrapMarks S bends snapped
-          → (q : Counts) → Done k ≡ Done q → StrapMarks (fold (crossed f) S (here ∷ [])) bends (set snapped x 1)
+          → (q : Counts) → ◌≡◌ {A = Ran} (Ok k) (Ok q) → StrapMarks (fold (crossed f) S (here ∷ [])) bends (set snapped x 1)
       marks cs vs (strapping R bs s) w z A q e =
           subst (λ (S : Strapping). StrapMarks S bends (set snapped x 1)) (snapped_is f here R bs s plan x (plan_is cs vs R w) (sym y ∙ test_is cs vs R w) n)
           (record { bends_are = A.bends_are; snapped_are = marks_more s (x ∷ []) snapped (set snapped x 1) (length-set snapped x 1) A.snapped_are (marked_one x snapped l) })
@@ -216,10 +218,10 @@ module _ (f : Float) (number : ℕ) (t : Float) (L : Rooms) (k : Counts) (points
 -- ---- one worker behind another
 
 told? : Ran → ℕ
-told? (Refused c) = 0
-told? (Done k) = 1
+told? (Err c) = 0
+told? (Ok k) = 1
 
-refused_done : (c : ℕ) (k : Counts) → Refused c ≡ Done k → ⊥
+refused_done : (c : Refusal) (k : Counts) → Err c ≡ Ok k → ⊥
 unfolding told?
 refused_done c k e = let z : ◌≡◌ {A = ℕ} 0 1 = ap told? e in omega arith
 
@@ -229,11 +231,11 @@ ran_is (strapping R bends snapped) = refl
 
 module _ (f : Float) (L : Rooms) where
   -- no crossing
-  pub crosses_none : {at : Counts → World} {bends snapped : List ℕ} (k : Counts) → Within k L → Crosses f [] L (at k) at bends snapped bends snapped (Done k)
+  pub crosses_none : {at : Counts → World} {bends snapped : List ℕ} (k : Counts) → Within k L → Crosses f [] L (at k) at bends snapped bends snapped (Ok k)
   unfolding fold
   crosses_none k b = record { went = λ S w z. (z, b, w); marks = λ S w z A q e. A }
 
-  pub crosses_then : {cs ds : List Crossing} {W : World} {at at' : Counts → World} {b s b₁ s₁ b₂ s₂ : List ℕ} {k : Counts} {r : Ran} → Crosses f cs L W at b s b₁ s₁ (Done k) → Crosses f ds L (at k) at' b₁ s₁ b₂ s₂ r
+  pub crosses_then : {cs ds : List Crossing} {W : World} {at at' : Counts → World} {b s b₁ s₁ b₂ s₂ : List ℕ} {k : Counts} {r : Ran} → Crosses f cs L W at b s b₁ s₁ (Ok k) → Crosses f ds L (at k) at' b₁ s₁ b₂ s₂ r
       → Crosses f (cs ++ ds) L W at' b s b₂ s₂ r
   crosses_then {cs} {ds} {at' = at'} {b₂ = b₂} {s₂ = s₂} {k} {r} F G =
       record {
@@ -248,14 +250,14 @@ module _ (f : Float) (L : Rooms) where
       }
 
   -- what lacks room lacks it whatever comes behind
-  pub crosses_refused : {cs : List Crossing} (ds : List Crossing) {W : World} {at : Counts → World} {b s b₁ s₁ : List ℕ} {c : ℕ} → Crosses f cs L W at b s b₁ s₁ (Refused c)
-      → Crosses f (cs ++ ds) L W at b s b₁ s₁ (Refused c)
+  pub crosses_refused : {cs : List Crossing} (ds : List Crossing) {W : World} {at : Counts → World} {b s b₁ s₁ : List ℕ} {c : Refusal} → Crosses f cs L W at b s b₁ s₁ (Err c)
+      → Crosses f (cs ++ ds) L W at b s b₁ s₁ (Err c)
   crosses_refused {cs} ds {at = at} {c = c} F =
       record {
         went =
             λ S w z.
             let h = F.went S w z in
-            subst (λ (T : Strapping). Went L (ran_of T) at (Refused c)) (sym (fold_append (crossed f) S cs ds)) (by c (fold (crossed f) S cs) h.0 h.1);
+            subst (λ (T : Strapping). Went L (ran_of T) at (Err c)) (sym (fold_append (crossed f) S cs ds)) (by (number_of c) (fold (crossed f) S cs) h.0 h.1);
         marks = λ S w z A q e. absurd (refused_done c q e);
       }
     where

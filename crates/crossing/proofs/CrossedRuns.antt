@@ -27,12 +27,13 @@ use Rattle.mesh.specs.Filled.{lent}
 use Rattle.mesh.specs.declared.Counts.{Counts}
 use Rattle.mesh.specs.declared.Rooms.{Rooms}
 use Rattle.work.specs.Working.{Within, Roomed, Ready}
-use Rattle.work.specs.declared.Ran.{Ran}
-use Rattle.work.specs.declared.Ran.TheVariants.{Refused, Done}
+use Rattle.work.specs.Ran.{Ran}
 use Rattle.work.proofs.Placed.{edges_count}
 use Rattle.crossing.specs.Crossings.{crossed_in}
 use Rattle.crossing.specs.Crossed.{ran_of, Crosses, CrossTold, CrossRoom, CrossingsIn}
 use Rattle.crossing.proofs.CrossedLaws.{crosses_none, crosses_then, crosses_refused}
+use Rattle.std.specs.Prelude.{Ok, Err}
+use Rattle.mesh.specs.declared.refusals.Refusal.{Refusal}
 
 -- ---- a crossing keeps the indices and the edges' numbers
 
@@ -64,7 +65,7 @@ all_kept f n S (c ∷ l) h Y = all_kept f n (crossed f S c) l h.1 (crossed_kept 
 
 -- ---- the run so far, and what its blocks are ready for
 
-module _ (f : Float) (cs : List Crossing) (L : Rooms) (W : World) (at : Counts → World) (b s b' s' : List ℕ) (k : Counts) (F : Crosses f cs L W at b s b' s' (Done k)) (l : List Entry) (words : W.log ≡ map words_of l) where
+module _ (f : Float) (cs : List Crossing) (L : Rooms) (W : World) (at : Counts → World) (b s b' s' : List ℕ) (k : Counts) (F : Crosses f cs L W at b s b' s' (Ok k)) (l : List Entry) (words : W.log ≡ map words_of l) where
   -- a strap cut in the blocks at the start
   abbrev start : Strapping
   start = strapping (record { mesh = W.mesh; log = l; needs = [] }) [] []
@@ -113,7 +114,7 @@ pub record CrossedTo (f : Float) (m : ℕ) (numbers : List ℕ) (ts : List Float
   pub same : lent points roots [] [] ends lengths outline log ≡ lent points₀ roots₀ [] [] ends₀ lengths₀ outline₀ log₀
   pub same_bends : length bends ≡ length bends₀
   pub same_snapped : length snapped ≡ length snapped₀
-  pub told : CrossTold f (crossed_in i numbers ts) L k₀ points₀ roots₀ ends₀ lengths₀ outline₀ log₀ bends₀ snapped₀ points roots ends lengths outline log bends snapped (Done k)
+  pub told : CrossTold f (crossed_in i numbers ts) L k₀ points₀ roots₀ ends₀ lengths₀ outline₀ log₀ bends₀ snapped₀ points roots ends lengths outline log bends snapped (Ok k)
 
 module _ (f : Float) (m : ℕ) (numbers : List ℕ) (ts : List Float) (L : Rooms) (k₀ : Counts) (points₀ : List Float) (roots₀ ends₀ : List ℕ) (lengths₀ : List Float) (outline₀ log₀ bends₀ snapped₀ : List ℕ)
     (X : CrossRoom L k₀ points₀ roots₀ ends₀ lengths₀ outline₀ log₀ (length bends₀) (length snapped₀)) (N : CrossingsIn m numbers (length ts) k₀ log₀) where
@@ -180,7 +181,7 @@ module _ (f : Float) (m : ℕ) (numbers : List ℕ) (ts : List Float) (L : Rooms
           (sym (tab_step (λ j. record { number = get_or numbers j 0; t = get_or ts j nan }) i))
           (record { crosses = λ cs vs. crosses_then f L (O.told.crosses cs vs) (G.crosses cs vs) })
 
-      pub on_step : (k' : Counts) → r ≡ Done k' → i < m → lent points' roots' [] [] ends' lengths' outline' log' ≡ lent points roots [] [] ends lengths outline log → length bends' ≡ length bends → length snapped' ≡ length snapped
+      pub on_step : (k' : Counts) → r ≡ Ok k' → i < m → lent points' roots' [] [] ends' lengths' outline' log' ≡ lent points roots [] [] ends lengths outline log → length bends' ≡ length bends → length snapped' ≡ length snapped
           → CrossedTo f m numbers ts L k₀ points₀ roots₀ ends₀ lengths₀ outline₀ log₀ bends₀ snapped₀ points' roots' ends' lengths' outline' log' bends' snapped' k' (i + 1)
       on_step k' e h same sb ss =
           record {
@@ -192,7 +193,7 @@ module _ (f : Float) (m : ℕ) (numbers : List ℕ) (ts : List Float) (L : Rooms
           }
 
       -- a room lacks
-      pub on_stop : (c : ℕ) → r ≡ Refused c → i < m → CrossTold f (crossed_in m numbers ts) L k₀ points₀ roots₀ ends₀ lengths₀ outline₀ log₀ bends₀ snapped₀ points' roots' ends' lengths' outline' log' bends' snapped' r
+      pub on_stop : (c : Refusal) → r ≡ Err c → i < m → CrossTold f (crossed_in m numbers ts) L k₀ points₀ roots₀ ends₀ lengths₀ outline₀ log₀ bends₀ snapped₀ points' roots' ends' lengths' outline' log' bends' snapped' r
       on_stop c e h =
           let rest : List Crossing = drop (i + 1) (crossed_in m numbers ts) in
           let all : crossed_in (i + 1) numbers ts ++ rest ≡ crossed_in m numbers ts =
@@ -202,8 +203,8 @@ module _ (f : Float) (m : ℕ) (numbers : List ℕ) (ts : List Float) (L : Rooms
           (subst (λ (x : Ran). CrossTold f (crossed_in (i + 1) numbers ts ++ rest) L k₀ points₀ roots₀ ends₀ lengths₀ outline₀ log₀ bends₀ snapped₀ points' roots' ends' lengths' outline' log' bends' snapped' x) (sym e)
           (record { crosses = λ cs vs. crosses_refused f L rest (stopped.crosses cs vs) }))
 
-    pub on_done : m ≤ i → CrossTold f (crossed_in m numbers ts) L k₀ points₀ roots₀ ends₀ lengths₀ outline₀ log₀ bends₀ snapped₀ points roots ends lengths outline log bends snapped (Done k)
+    pub on_done : m ≤ i → CrossTold f (crossed_in m numbers ts) L k₀ points₀ roots₀ ends₀ lengths₀ outline₀ log₀ bends₀ snapped₀ points roots ends lengths outline log bends snapped (Ok k)
     on_done h =
         let low = O.inside in
         let e : i ≡ m = omega arith in
-        subst (λ (j : ℕ). CrossTold f (crossed_in j numbers ts) L k₀ points₀ roots₀ ends₀ lengths₀ outline₀ log₀ bends₀ snapped₀ points roots ends lengths outline log bends snapped (Done k)) e O.told
+        subst (λ (j : ℕ). CrossTold f (crossed_in j numbers ts) L k₀ points₀ roots₀ ends₀ lengths₀ outline₀ log₀ bends₀ snapped₀ points roots ends lengths outline log bends snapped (Ok k)) e O.told

@@ -23,10 +23,10 @@ use Rattle.mesh.specs.declared.Rooms.{Rooms}
 use Rattle.mesh.proofs.Lists.{particles_length, edges_length, log_length, mesh_path, world_path}
 use Rattle.work.specs.Working.{Within, Works}
 use Rattle.work.specs.Removal.{marked, marked_of, gone_words, GoneTo}
-use Rattle.work.specs.declared.Ran.{Ran}
-use Rattle.work.specs.declared.Ran.TheVariants.{Refused, Done}
+use Rattle.work.specs.Ran.{Ran}
 use Rattle.work.proofs.Runs.{room_enough, log_lacks, need_behind, StepTold, went_step}
 use Rattle.crossing.specs.Unbent.{MarksOf, UnbentTold}
+use Rattle.std.specs.Prelude.{Ok, Err}
 
 -- ---- masks by number
 
@@ -177,13 +177,13 @@ module _ (i : ℕ) (is bends : List ℕ) (side_mask : List ℕ) (k : Counts) (po
       told : (r : Ran) → GoneTo L k bends side_mask ends ends' lengths lengths' outline outline' log log' r
           → StepTold L R (left R.mesh) (gone R.mesh) (length R.mesh.edges) (length R.mesh.boundary) (λ q. world_at q points roots corners volumes ends' lengths' outline' log') r
       unfolding world_at mesh_at
-      told (Refused c) G = (
+      told (Err c) G = (
         log_lacks (as_rooms L) (need_behind R (left R.mesh) (gone R.mesh) (length R.mesh.edges) (length R.mesh.boundary))
             (omega (arith, particles_count, W.particles)) (omega (arith, edges_count, W.edges)) (omega (arith, boundary_count, W.boundary)) (omega (arith, log_count, G.1))
             ∙ sym G.0,
         omega (arith, G.0),
       )
-      told (Done q) G = (
+      told (Ok q) G = (
         room_enough (as_rooms L) (need_behind R (left R.mesh) (gone R.mesh) (length R.mesh.edges) (length R.mesh.boundary))
             (omega (arith, particles_count, W.particles)) (omega (arith, edges_count, W.edges)) (omega (arith, boundary_count, W.boundary))
             (omega (arith, log_count, log_length q.log log', ap length G.entries, length-append (log_at k.log log) (map (gone_words ends) (marked_of bends k.edges)), log_length k.log log, length-map (marked_of bends k.edges) (gone_words ends), G.few_log)),
@@ -216,7 +216,7 @@ unbent_works i is bends side_mask k points roots corners volumes ends lengths ou
     }
 
 unbent_stays : (L : Rooms) (k : Counts) (points : List Float) (roots corners : List ℕ) (volumes : List Float) (ends : List ℕ) (lengths : List Float) (outline log : List ℕ) → Within k L
-    → Works (unbent []) L (world_at k points roots corners volumes ends lengths outline log) (λ q. world_at q points roots corners volumes ends lengths outline log) (Done k)
+    → Works (unbent []) L (world_at k points roots corners volumes ends lengths outline log) (λ q. world_at q points roots corners volumes ends lengths outline log) (Ok k)
 unfolding unbent
 unbent_stays L k points roots corners volumes ends lengths outline log W = record { went = λ R X z. (z, W, X) }
 
@@ -233,11 +233,11 @@ bends_gone L k bends side_mask ends lengths outline log ends' lengths' outline' 
 
 -- nothing was marked, and nothing was done
 pub bends_none : (L : Rooms) (k : Counts) (bends ends : List ℕ) (lengths : List Float) (outline log : List ℕ) → Within k L → length (marked_of bends k.edges) ≡ 0
-    → UnbentTold L k bends ends lengths outline log ends lengths outline log (Done k)
+    → UnbentTold L k bends ends lengths outline log ends lengths outline log (Ok k)
 bends_none L k bends ends lengths outline log W z =
     record {
       works = λ ms points roots corners volumes T.
-          subst (λ (l : List ℕ). Works (unbent l) L (world_at k points roots corners volumes ends lengths outline log) (λ q. world_at q points roots corners volumes ends lengths outline log) (Done k)) (sym (none_listed ms bends k.edges T z))
+          subst (λ (l : List ℕ). Works (unbent l) L (world_at k points roots corners volumes ends lengths outline log) (λ q. world_at q points roots corners volumes ends lengths outline log) (Ok k)) (sym (none_listed ms bends k.edges T z))
           (unbent_stays L k points roots corners volumes ends lengths outline log W);
     }
 

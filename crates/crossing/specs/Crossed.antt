@@ -1,5 +1,5 @@
 -- The crossings of a strap cut, one after the other over the blocks. Only contracts between workers need this file. Definitions only.
-use Rattle.std.specs.Prelude.{ℕ, ◌<◌, ◌≤◌, ◌≡◌, List, length, get_or, Float}
+use Rattle.std.specs.Prelude.{ℕ, ◌<◌, ◌≤◌, ◌≡◌, List, length, get_or, Float, Ok}
 use Rattle.lists.specs.Lists.{stands, fold}
 use Rattle.model.specs.Run.{Run}
 use Rattle.model.specs.Calls.{first_fault}
@@ -12,8 +12,7 @@ use Rattle.mesh.specs.declared.Counts.{Counts}
 use Rattle.mesh.specs.declared.Rooms.{Rooms}
 use Rattle.elements.specs.Workers.{marked}
 use Rattle.work.specs.Working.{Ready, Went, Logged}
-use Rattle.work.specs.declared.Ran.{Ran}
-use Rattle.work.specs.declared.Ran.TheVariants.{Done}
+use Rattle.work.specs.Ran.{Ran}
 use Rattle.marks.specs.Marking.{Marks}
 use Rattle.mesh.specs.Blocks.{LentNumbersIn, LentIndicesIn, LentNumbers, LentIndices}
 
@@ -37,7 +36,7 @@ pub record Crosses (f : Float) (cs : List Crossing) (L : Rooms) (W : World) (at 
   pub went : (S : Strapping) → W ≡ world_of (ran_of S).mesh (ran_of S).log → first_fault (as_rooms L) (ran_of S).needs ≡ 0 → Went L (ran_of (fold (crossed f) S cs)) at r
   pub marks :
       (S : Strapping) → W ≡ world_of (ran_of S).mesh (ran_of S).log → first_fault (as_rooms L) (ran_of S).needs ≡ 0 → StrapMarks S bends snapped
-      → (k : Counts) → r ≡ Done k → StrapMarks (fold (crossed f) S cs) bends' snapped'
+      → (k : Counts) → r ≡ Ok k → StrapMarks (fold (crossed f) S cs) bends' snapped'
 
 -- the same, whatever stands in the blocks of the triangles
 pub record CrossTold (f : Float) (cs : List Crossing) (L : Rooms) (k : Counts) (points : List Float) (roots ends : List ℕ) (lengths : List Float) (outline log bends snapped : List ℕ) (points' : List Float) (roots' ends' : List ℕ) (lengths' : List Float) (outline' log' bends' snapped' : List ℕ) (r : Ran) : Type 0 where

@@ -10,7 +10,7 @@ use Rattle.mesh.specs.Limits.{particle_limit, edge_limit, boundary_limit}
 use Rattle.work.specs.Places.{EndsIn}
 use Rattle.work.specs.Working.{Within, Works}
 use Rattle.work.specs.Removal.{marked}
-use Rattle.work.specs.declared.Ran.{Ran}
+use Rattle.work.specs.Ran.{Ran}
 
 -- the counts are within the rooms, and the blocks have them; each edge has a mark
 pub record UnbentRoom (L : Rooms) (k : Counts) (bends : ℕ) (ends₀ : List ℕ) (ll lo lg : ℕ) : Type 0 where

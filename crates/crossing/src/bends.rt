@@ -40,6 +40,7 @@ fn mark_side(v: usize, w: usize, e: usize, ends: &[usize], side: &mut [u8], tabl
     let rows = ends.len() / mesh::END_COLUMNS;
     side[v] = 1;
     let mut at = links::first_at(v, table);
+    // A chain: each place tells the next, so there is no range to go over.
     while at > 0 {
         let i = at - 1;
         let x = neighbour(v, w, i, ends);
@@ -95,6 +96,7 @@ fn mark_at(
 {
     let rows = ends.len() / mesh::END_COLUMNS;
     let mut at = links::first_at(x, table);
+    // A chain: each place tells the next, so there is no range to go over.
     while at > 0 {
         let i = at - 1;
         if bend(i, ends, first, second) {
@@ -125,6 +127,7 @@ fn mark_between(
     walked[v] = 1;
     mark_at(v, e, ends, first, second, marks, table);
     let mut at = links::first_at(v, table);
+    // A chain: each place tells the next, so there is no range to go over.
     while at > 0 {
         let i = at - 1;
         let x = neighbour(v, w, i, ends);

@@ -51,7 +51,7 @@ fn cross(
     }
     let near = plan::near_end(row.a, row.b, t);
     snapped[near] = 1;
-    Ran::Done(k)
+    Ok(k)
 }
 
 // All crossings in turn, until one lacks room. The table of the edges is kept true.
@@ -78,9 +78,8 @@ pub fn cross_all(
         snapped result × EdgesAfter ends.new table.new result }
 {
     let mut counts = k;
-    let mut i: usize = 0;
-    while i < m {
-        let ran = cross(
+    for i in 0..m {
+        let next = cross(
             f,
             numbers[i] as usize,
             ts[i],
@@ -95,12 +94,8 @@ pub fn cross_all(
             bends,
             snapped,
             table,
-        );
-        let Ran::Done(next) = ran else {
-            return ran;
-        };
+        )?;
         counts = next;
-        i += 1;
     }
-    Ran::Done(counts)
+    Ok(counts)
 }

@@ -45,11 +45,9 @@ pub fn find_crossings(
     ensures { CrossingsAre b0 b1 e points.now ends.now numbers.new ts.new result }
 {
     let mut m: usize = 0;
-    let mut i: usize = 0;
-    while i < e {
+    for i in 0..e {
         let hit = hit_of(b0, b1, i, points, ends);
         m = note_hit(hit, i, m, numbers, ts);
-        i += 1;
     }
     m
 }

@@ -12,12 +12,10 @@ fn count_marked(n: usize, marks: &[usize]) -> usize
     ensures { result ≡ length (marked_of marks.now n) }
 {
     let mut count: usize = 0;
-    let mut i: usize = 0;
-    while i < n {
+    for i in 0..n {
         if marks[i] == 1 {
             count += 1;
         }
-        i += 1;
     }
     count
 }
@@ -38,7 +36,7 @@ pub fn remove_bends(
 {
     let s = count_marked(k.edges, bends);
     if s == 0 {
-        return Ran::Done(k);
+        return Ok(k);
     }
     let none = [0usize; mesh::BOUNDARY];
     work::removal::remove_marked(k, room, s, bends, &none, ends, lengths, outline, log)

@@ -36,7 +36,6 @@ use Rattle.elements.specs.declared.Kind.{Kind as KindCase}
 use Rattle.elements.specs.declared.Kind.TheVariants.{Triangles as TrianglesCase, Straps as StrapsCase, Nothing as NothingCase}
 use Rattle.work.specs.Places.{CornersIn, EndsIn}
 use Rattle.work.specs.Working.{Ready, Works}
-use Rattle.work.specs.declared.Ran.TheVariants.{Refused, Done}
 use Rattle.work.proofs.Placed.{particles_count, edges_count, boundary_count, corners_in, ends_in}
 use Rattle.work.proofs.Runs.{room_enough, log_lacks, need_behind, went_step}
 use Rattle.split_plan.specs.Opened.{place_in}
@@ -46,6 +45,8 @@ use Rattle.marks.specs.declared.Rule.TheVariants.{Rounded, Signs}
 use Rattle.marks.proofs.MarkLaws.{each_tab, corners_at, row_below, rows_are, places_at}
 use Rattle.crossmarks.specs.Noting.{pair_marks, row_marks, triangle_marks, strap_mark, strap_marks, Noted, beside_by, OffsetAt, OffsetsAre, PairRoom, TriangleRoom, StrapRoom}
 use Rattle.lists.proofs.Sifts.{each_ext}
+use Rattle.std.specs.Prelude.{Ok, Err}
+use Rattle.mesh.specs.declared.refusals.Refusal.TheVariants.{Entries}
 
 -- ---- marks behind a log
 
@@ -443,12 +444,12 @@ module _ (kind : KindCase) (B : Blade) (L : Rooms) (k : Counts) (points : List F
         ∙ ap₂ {C = List Words} ◌++◌ same_log (ap (λ (m : Mesh). map words_of (marks_of (kind_is kind) B m)) same_mesh)
         ∙ sym (map-append words_of S.log (marks_of (kind_is kind) B S.mesh))
 
-  pub marked_refused : (log' : List ℕ) (n : ℕ) (at : Counts → World) → Marked log' n → L.log < n → Works (marked_by (kind_is kind) B) L (world_at k points roots corners volumes ends lengths outline log) at (Refused 8)
+  pub marked_refused : (log' : List ℕ) (n : ℕ) (at : Counts → World) → Marked log' n → L.log < n → Works (marked_by (kind_is kind) B) L (world_at k points roots corners volumes ends lengths outline log) at (Err Entries)
   unfolding marked_by
   marked_refused log' n at X u =
       record {
         went = λ S e z.
-            went_step L S S.mesh (marks_of (kind_is kind) B S.mesh) (length S.mesh.edges) (length S.mesh.boundary) at (Refused 8) z (
+            went_step L S S.mesh (marks_of (kind_is kind) B S.mesh) (length S.mesh.edges) (length S.mesh.boundary) at (Err Entries) z (
               log_lacks (as_rooms L) (need_behind S S.mesh (marks_of (kind_is kind) B S.mesh) (length S.mesh.edges) (length S.mesh.boundary)) (particles_in log' n X S e) (edges_in log' n X S e) (boundary_in log' n X S e)
                   (let d = log_long log' n X S e in omega (arith, d)),
               omega arith,
@@ -457,13 +458,13 @@ module _ (kind : KindCase) (B : Blade) (L : Rooms) (k : Counts) (points : List F
 
   pub marked_done : (log' : List ℕ) (n : ℕ) → Marked log' n → n ≤ L.log
       → Works (marked_by (kind_is kind) B) L (world_at k points roots corners volumes ends lengths outline log) (λ q. world_at q points roots corners volumes ends lengths outline log')
-      (Done (record { particles = k.particles; triangles = k.triangles; edges = k.edges; boundary = k.boundary; log = n }))
+      (Ok (record { particles = k.particles; triangles = k.triangles; edges = k.edges; boundary = k.boundary; log = n }))
   unfolding marked_by world_at mesh_at
   marked_done log' n X u =
       record {
         went = λ S e z.
             went_step L S S.mesh (marks_of (kind_is kind) B S.mesh) (length S.mesh.edges) (length S.mesh.boundary) (λ q. world_at q points roots corners volumes ends lengths outline log')
-            (Done (record { particles = k.particles; triangles = k.triangles; edges = k.edges; boundary = k.boundary; log = n })) z (
+            (Ok (record { particles = k.particles; triangles = k.triangles; edges = k.edges; boundary = k.boundary; log = n })) z (
               room_enough (as_rooms L) (need_behind S S.mesh (marks_of (kind_is kind) B S.mesh) (length S.mesh.edges) (length S.mesh.boundary)) (particles_in log' n X S e) (edges_in log' n X S e) (boundary_in log' n X S e)
                   (let d = log_long log' n X S e in omega (arith, d)),
               record { particles = Y.counts.particles; triangles = Y.counts.triangles; edges = Y.counts.edges; boundary = Y.counts.boundary; log = u },

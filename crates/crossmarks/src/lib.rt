@@ -16,6 +16,7 @@ use blade::{Hit, Point};
 use elements::Kind;
 use marks::Rule;
 use marks::particles::tested;
+use mesh::refusals::Refusal;
 use mesh::{Counts, Rooms};
 use split_plan::place;
 use work::Ran;
@@ -26,10 +27,8 @@ fn read_offsets(b0: Point, b1: Point, p: usize, points: &[f32], offsets: &mut [f
     requires { (p ≤ length points.now / point_columns) × (p ≤ length offsets.old) }
     ensures { OffsetsAre b0 b1 points.now offsets.new p }
 {
-    let mut w: usize = 0;
-    while w < p {
+    for w in 0..p {
         offsets[w] = blade::offset(b0, b1, place(w, points));
-        w += 1;
     }
 }
 
@@ -133,8 +132,7 @@ fn note_triangles(
 {
     let size = corners.len() / mesh::CORNER_COLUMNS;
     let mut m = n;
-    let mut i: usize = 0;
-    while i < t {
+    for i in 0..t {
         let second = size + i;
         let third = 2 * size + i;
         m = note_sides(
@@ -149,7 +147,6 @@ fn note_triangles(
             offsets,
             log,
         );
-        i += 1;
     }
     m
 }
@@ -172,8 +169,7 @@ fn note_straps(
 {
     let size = ends.len() / mesh::END_COLUMNS;
     let mut m = n;
-    let mut i: usize = 0;
-    while i < e {
+    for i in 0..e {
         if ends[2 * size + i] == 1 {
             m = note_across(
                 rule,
@@ -187,7 +183,6 @@ fn note_straps(
                 log,
             );
         }
-        i += 1;
     }
     m
 }
@@ -231,9 +226,9 @@ fn note_elements(
         Kind::Nothing => before,
     };
     if room.log < n {
-        return Ran::Refused(mesh::refusals::ENTRIES);
+        return Err(Refusal::Entries);
     }
-    Ran::Done(Counts {
+    Ok(Counts {
         particles: k.particles,
         triangles: k.triangles,
         edges: k.edges,

@@ -22,8 +22,7 @@ use Rattle.mesh.specs.declared.Rooms.{Rooms}
 use Rattle.mesh.specs.Widths.{point_columns}
 use Rattle.work.specs.Places.{CornersIn}
 use Rattle.work.specs.Working.{Within, Ready, Works, Logged}
-use Rattle.work.specs.declared.Ran.{Ran}
-use Rattle.work.specs.declared.Ran.TheVariants.{Refused, Done}
+use Rattle.work.specs.Ran.{Ran}
 use Rattle.work.proofs.Placed.{particles_count, corners_in}
 use Rattle.work.proofs.Runs.{works_stay, works_then, works_refused, works_known, works_as}
 use Rattle.cut.specs.declared.facets.Parting.TheVariants.{Free, Blade as BladeFrom, Snapped}
@@ -33,6 +32,8 @@ use Rattle.cut.specs.Running.{sides_in, split_by_of, split_in, Chosen}
 use Rattle.cut.proofs.RunLaws.{chosen_rising, split_to}
 use Rattle.marks.proofs.MarkLaws.{places_at}
 use Rattle.lists.proofs.Truths.{of_not, of_not_false}
+use Rattle.std.specs.Prelude.{Ok, Err}
+use Rattle.mesh.specs.declared.refusals.Refusal.{Refusal}
 
 -- ---- the marked
 
@@ -150,21 +151,21 @@ after_onward : (S : Run) → Onward S (afterwards S)
 after_onward S = onward_pick (empty (splits_of S.log)) S S (split_pinched_of Triangles S) (onward_stay S) (pinched_onward Triangles S)
 
 -- the first part lacks room
-pub facets_refused : {L : Rooms} {W : World} {at : Counts → World} (B : Blade) (r : Ran) (c : ℕ) → r ≡ Refused c → Works (split_candidates B) L W at r → Works (cut_facets_of B) L W at r
+pub facets_refused : {L : Rooms} {W : World} {at : Counts → World} (B : Blade) (r : Ran) (c : Refusal) → r ≡ Err c → Works (split_candidates B) L W at r → Works (cut_facets_of B) L W at r
 unfolding cut_facets_of
-facets_refused {at = at} B r c e F = works_known (Refused c) r (sym e) (works_refused afterwards {at = at} (λ R. after_onward (split_candidates B R)) (works_known r (Refused c) e F))
+facets_refused {at = at} B r c e F = works_known (Err c) r (sym e) (works_refused afterwards {at = at} (λ R. after_onward (split_candidates B R)) (works_known r (Err c) e F))
 
-module _ {L : Rooms} {W : World} {at : Counts → World} (B : Blade) (r : Ran) (k : Counts) (known : r ≡ Done k) (F : Works (split_candidates B) L W at r) (t : Bool) (found : (S : Run) → (at k).log ≡ map words_of S.log → t ≡ not (empty (splits_of S.log))) where
+module _ {L : Rooms} {W : World} {at : Counts → World} (B : Blade) (r : Ran) (k : Counts) (known : r ≡ Ok k) (F : Works (split_candidates B) L W at r) (t : Bool) (found : (S : Run) → (at k).log ≡ map words_of S.log → t ≡ not (empty (splits_of S.log))) where
   -- nothing split
-  pub facets_unsplit : Within k L → t ≡ false → Works (cut_facets_of B) L W at (Done k)
+  pub facets_unsplit : Within k L → t ≡ false → Works (cut_facets_of B) L W at (Ok k)
   unfolding cut_facets_of
   facets_unsplit b e =
-      works_then (works_known r (Done k) known F)
+      works_then (works_known r (Ok k) known F)
       (works_as (λ S h. sym (ap (λ (s : Bool). pick s S (split_pinched_of Triangles S)) (of_not_false (empty (splits_of S.log)) (sym e ∙ found S (ap (λ (x : World). x.log) h))))) (works_stay {at = at} k b))
 
   -- the pinched are split behind it
   pub facets_split : {at' : Counts → World} {r' : Ran} → t ≡ true → Works (split_pinched_of Triangles) L (at k) at' r' → Works (cut_facets_of B) L W at' r'
   unfolding cut_facets_of
   facets_split e G =
-      works_then (works_known r (Done k) known F)
+      works_then (works_known r (Ok k) known F)
       (works_as (λ S h. sym (ap (λ (s : Bool). pick s S (split_pinched_of Triangles S)) (of_not (empty (splits_of S.log)) (sym e ∙ found S (ap (λ (x : World). x.log) h))))) G)

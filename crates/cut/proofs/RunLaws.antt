@@ -24,8 +24,7 @@ use Rattle.mesh.specs.Given.{Lent, as_rooms}
 use Rattle.mesh.specs.declared.Counts.{Counts}
 use Rattle.mesh.specs.declared.Rooms.{Rooms}
 use Rattle.work.specs.Working.{Within, Roomed, Ready, Works}
-use Rattle.work.specs.declared.Ran.{Ran}
-use Rattle.work.specs.declared.Ran.TheVariants.{Refused, Done}
+use Rattle.work.specs.Ran.{Ran}
 use Rattle.work.proofs.Runs.{works_stay, works_then, works_refused, works_as}
 use Rattle.elements.proofs.Measures.{sift_agree}
 use Rattle.cut.specs.declared.facets.Parting.{Parting}
@@ -33,6 +32,8 @@ use Rattle.cut.specs.declared.facets.Parting.TheVariants.{Free, Blade as BladeFr
 use Rattle.marks.specs.Marking.{Marks, marked?}
 use Rattle.cut.specs.Running.{sides_in, split_by_of, split_in, chosen}
 use Rattle.marks.proofs.MarkLaws.{mark_tells}
+use Rattle.std.specs.Prelude.{Ok, Err}
+use Rattle.mesh.specs.declared.refusals.Refusal.{Refusal}
 
 -- ---- the particles that are chosen
 
@@ -126,11 +127,11 @@ module _ (w : Parting) (K : Kind) (L : Rooms) (marks : List ℕ) where
   abbrev pub split_to : ℕ → Run → Run
   split_to v R = fold (split_in w K) R (chosen v marks)
 
-  pub run_none : {at : Counts → World} (k : Counts) → Within k L → Works (split_to 0) L (at k) at (Done k)
+  pub run_none : {at : Counts → World} (k : Counts) → Within k L → Works (split_to 0) L (at k) at (Ok k)
   unfolding fold
   run_none k b = works_as (λ R e. sym (ap (fold (split_in w K) R) (chosen_none marks))) (works_stay k b)
 
-  module _ {W : World} {at : Counts → World} {k : Counts} (v : ℕ) (F : Works (split_to v) L W at (Done k)) where
+  module _ {W : World} {at : Counts → World} {k : Counts} (v : ℕ) (F : Works (split_to v) L W at (Ok k)) where
     -- the next particle is split, if it is marked
     run_same : (R : Run) (t : Bool) → marked? marks v ≡ t → pick t (split_in w K (split_to v R) v) (split_to v R) ≡ split_to (v + 1) R
     unfolding fold
@@ -143,7 +144,7 @@ module _ (w : Parting) (K : Kind) (L : Rooms) (marks : List ℕ) where
         by false S = refl
 
     -- one that is not marked is passed
-    pub run_skip : (get_or marks v 0 ≡ 1 → ⊥) → Works (split_to (v + 1)) L W at (Done k)
+    pub run_skip : (get_or marks v 0 ≡ 1 → ⊥) → Works (split_to (v + 1)) L W at (Ok k)
     run_skip n = works_as (λ R e. run_same R false (ne_eqb _ _ n)) F
 
     -- a marked one is split
@@ -151,7 +152,7 @@ module _ (w : Parting) (K : Kind) (L : Rooms) (marks : List ℕ) where
       run_more : {at' : Counts → World} {r : Ran} → Works (λ (R : Run). split_in w K R v) L (at k) at' r → Works (split_to (v + 1)) L W at' r
       run_more G = works_as (λ R e. run_same R true (eq-eqb _ _ m)) (works_then F G)
 
-      run_stop : {at' : Counts → World} {c : ℕ} (p : ℕ) → v < p → Works (λ (R : Run). split_in w K R v) L (at k) at' (Refused c) → Works (split_to p) L W at' (Refused c)
+      run_stop : {at' : Counts → World} {c : Refusal} (p : ℕ) → v < p → Works (λ (R : Run). split_in w K R v) L (at k) at' (Err c) → Works (split_to p) L W at' (Err c)
       run_stop {at'} {c} p h G =
           let rest : List ℕ = sift (marked? marks) (drop (v + 1) (up_to p)) in
           works_as
@@ -159,19 +160,19 @@ module _ (w : Parting) (K : Kind) (L : Rooms) (marks : List ℕ) where
           (works_refused (λ (S : Run). fold (split_in w K) S rest) {at = at'} (λ R. onward_fold (split_in w K) (in_onward w K) (split_to (v + 1) R) rest) (run_more G))
 
       -- the same of an answer that is known
-      pub run_next : {at' : Counts → World} (r : Ran) (k' : Counts) → r ≡ Done k' → Works (λ (R : Run). split_in w K R v) L (at k) at' r → Works (split_to (v + 1)) L W at' (Done k')
+      pub run_next : {at' : Counts → World} (r : Ran) (k' : Counts) → r ≡ Ok k' → Works (λ (R : Run). split_in w K R v) L (at k) at' r → Works (split_to (v + 1)) L W at' (Ok k')
       run_next {at'} r k' e G = run_more (subst (λ (x : Ran). Works (λ (R : Run). split_in w K R v) L (at k) at' x) e G)
 
-      pub run_end : {at' : Counts → World} (r : Ran) (c : ℕ) → r ≡ Refused c → (p : ℕ) → v < p → Works (λ (R : Run). split_in w K R v) L (at k) at' r → Works (split_to p) L W at' r
+      pub run_end : {at' : Counts → World} (r : Ran) (c : Refusal) → r ≡ Err c → (p : ℕ) → v < p → Works (λ (R : Run). split_in w K R v) L (at k) at' r → Works (split_to p) L W at' r
       run_end {at'} r c e p h G =
           subst (λ (x : Ran). Works (split_to p) L W at' x) (sym e) (run_stop p h (subst (λ (x : Ran). Works (λ (R : Run). split_in w K R v) L (at k) at' x) e G))
 
   -- where none of the first p is marked nothing is done
-  pub run_idle : {at : Counts → World} (k : Counts) → Within k L → (p : ℕ) → ((v : ℕ) → v < p → get_or marks v 0 ≡ 1 → ⊥) → Works (split_to p) L (at k) at (Done k)
+  pub run_idle : {at : Counts → World} (k : Counts) → Within k L → (p : ℕ) → ((v : ℕ) → v < p → get_or marks v 0 ≡ 1 → ⊥) → Works (split_to p) L (at k) at (Ok k)
   run_idle {at} k b zero h = run_none {at = at} k b
   run_idle {at} k b (suc p) h =
       let e : p + 1 ≡ suc p = omega arith in
-      subst (λ (m : ℕ). Works (split_to m) L (at k) at (Done k)) e (run_skip p (run_idle {at = at} k b p (λ v l. h v (omega arith))) (h p (omega arith)))
+      subst (λ (m : ℕ). Works (split_to m) L (at k) at (Ok k)) e (run_skip p (run_idle {at = at} k b p (λ v l. h v (omega arith))) (h p (omega arith)))
 
   pub run_all : {W : World} {at : Counts → World} {r : Ran} (v p : ℕ) → v ≡ p → Works (split_to v) L W at r → Works (split_to p) L W at r
   run_all {W} {at} {r} v p e F = subst (λ (m : ℕ). Works (split_to m) L W at r) e F
@@ -184,7 +185,7 @@ module _ (w : Parting) (K : Kind) (L : Rooms) (marks : List ℕ) where
   started W l e = λ i. record { mesh = W.mesh; log = e i }
 
   -- what its blocks are ready for
-  module _ {W : World} {at : Counts → World} {k : Counts} (v : ℕ) (F : Works (split_to v) L W at (Done k)) (l : List Entry) (words : W.log ≡ map words_of l) where
+  module _ {W : World} {at : Counts → World} {k : Counts} (v : ℕ) (F : Works (split_to v) L W at (Ok k)) (l : List Entry) (words : W.log ≡ map words_of l) where
     went_to : (first_fault (as_rooms L) (split_to v (start W l)).needs ≡ 0) × Within k L × (at k ≡ world_of (split_to v (start W l)).mesh (split_to v (start W l)).log)
     unfolding first_fault
     went_to = F.went (start W l) (started W l words) refl

@@ -30,8 +30,7 @@ use Rattle.mesh.specs.declared.Counts.{Counts}
 use Rattle.mesh.specs.declared.Rooms.{Rooms}
 use Rattle.work.specs.Working.{Within, Ready, Went, Works, Logged}
 use Rattle.work.proofs.Placed.{particles_count}
-use Rattle.work.specs.declared.Ran.{Ran}
-use Rattle.work.specs.declared.Ran.TheVariants.{Refused, Done}
+use Rattle.work.specs.Ran.{Ran}
 use Rattle.model.specs.Elements.{Kind}
 use Rattle.work.proofs.Runs.{works_known}
 use Rattle.slack.specs.Slack.{beyond, slack_beyond, SlackFrom, EdgesHere}
@@ -40,6 +39,8 @@ use Rattle.cut.specs.declared.facets.Parting.{Parting}
 use Rattle.cut.specs.declared.facets.Parting.TheVariants.{Free, Blade as BladeFrom, Snapped}
 use Rattle.cut.specs.Running.{sides_in, split_by_of, split_in, slackens?}
 use Rattle.cut.proofs.RunLaws.{by_indexed}
+use Rattle.std.specs.Prelude.{Ok, Err}
+use Rattle.mesh.specs.declared.refusals.Refusal.{Refusal}
 
 -- ---- the copies of a split
 
@@ -165,9 +166,9 @@ unfolding world_at
 world_count q points roots corners volumes ends lengths outline log = particles_count q points roots corners volumes ends lengths outline
 
 -- a worker that lacks room lacks it wherever it would have gone
-known_refused : {f : Run → Run} {L : Rooms} {W : World} {at at' : Counts → World} (r : Ran) (c : ℕ) → r ≡ Refused c → Works f L W at r → Works f L W at' r
+known_refused : {f : Run → Run} {L : Rooms} {W : World} {at at' : Counts → World} (r : Ran) (c : Refusal) → r ≡ Err c → Works f L W at r → Works f L W at' r
 known_refused {f} {L} {W} {at} {at'} r c known F =
-    works_known (Refused c) r (sym known) (record { went = λ R e z. subst (Went L (f R) at) known (F.went R e z) })
+    works_known (Err c) r (sym known) (record { went = λ R e z. subst (Went L (f R) at) known (F.went R e z) })
 
 -- the blocks behind the slackening
 pub slack_world_lem : (from : ℕ) (k : Counts) (points : List Float) (roots corners : List ℕ) (volumes : List Float) (ends : List ℕ) (lengths lengths' : List Float) (outline log : List ℕ) → SlackFrom from k.edges ends lengths lengths'
@@ -178,8 +179,8 @@ slack_world_lem from k points roots corners volumes ends lengths lengths' outlin
 
 module _ (b0 b1 : Point) (K : Kind) (v : ℕ) {L : Rooms} {W : World} {at : Counts → World} (r : Ran) (F : Works (λ (R : Run). split_by_of (Snapped b0 b1) K R v) L W at r) where
   -- the plain split came to k
-  module _ (k : Counts) (known : r ≡ Done k) where
-    went_on : (R : Run) → W ≡ world_of R.mesh R.log → first_fault (as_rooms L) R.needs ≡ 0 → Went L (split_by_of (Snapped b0 b1) K R v) at (Done k)
+  module _ (k : Counts) (known : r ≡ Ok k) where
+    went_on : (R : Run) → W ≡ world_of R.mesh R.log → first_fault (as_rooms L) R.needs ≡ 0 → Went L (split_by_of (Snapped b0 b1) K R v) at (Ok k)
     went_on R e z = subst (Went L (split_by_of (Snapped b0 b1) K R v) at) known (F.went R e z)
 
   -- a run in the blocks, with slack edges
@@ -190,37 +191,37 @@ module _ (b0 b1 : Point) (K : Kind) (v : ℕ) {L : Rooms} {W : World} {at : Coun
         snapped_is b0 b1 K R v (subst Indexed m fit)
         ∙ ap (λ (M : Mesh). slack_run (length M.particles) (split_by_of (Snapped b0 b1) K R v)) (sym m)
 
-  pub snap_refused : {at' : Counts → World} (c : ℕ) → r ≡ Refused c → Indexed W.mesh → Works (λ (R : Run). split_in (Snapped b0 b1) K R v) L W at' r
+  pub snap_refused : {at' : Counts → World} (c : Refusal) → r ≡ Err c → Indexed W.mesh → Works (λ (R : Run). split_in (Snapped b0 b1) K R v) L W at' r
   snap_refused {at'} c known fit =
       subst (λ (x : Ran). Works (λ (R : Run). split_in (Snapped b0 b1) K R v) L W at' x) (sym known)
       (record {
         went = λ R e z.
-            subst (λ (S : Run). Went L S at' (Refused c)) (sym (snap_run fit R e))
+            subst (λ (S : Run). Went L S at' (Err c)) (sym (snap_run fit R e))
             (subst (Went L (split_by_of (Snapped b0 b1) K R v) at) known (F.went R e z));
       })
 
-  pub snap_done : {at' : Counts → World} (k : Counts) → r ≡ Done k → Indexed W.mesh → at' k ≡ slack_world (length W.mesh.particles) (at k) → Works (λ (R : Run). split_in (Snapped b0 b1) K R v) L W at' (Done k)
+  pub snap_done : {at' : Counts → World} (k : Counts) → r ≡ Ok k → Indexed W.mesh → at' k ≡ slack_world (length W.mesh.particles) (at k) → Works (λ (R : Run). split_in (Snapped b0 b1) K R v) L W at' (Ok k)
   snap_done {at'} k known fit E =
       record {
         went = λ R e z.
             let h = went_on k known R e z in
-            subst (λ (S : Run). Went L S at' (Done k)) (sym (snap_run fit R e)) (h.0, h.1, E ∙ ap (slack_world (length W.mesh.particles)) h.2);
+            subst (λ (S : Run). Went L S at' (Ok k)) (sym (snap_run fit R e)) (h.0, h.1, E ∙ ap (slack_world (length W.mesh.particles)) h.2);
       }
 
   -- the plain split made no copy
-  pub snap_idle : (k : Counts) → r ≡ Done k → Indexed W.mesh → length (at k).mesh.particles ≡ length W.mesh.particles → Works (λ (R : Run). split_in (Snapped b0 b1) K R v) L W at (Done k)
+  pub snap_idle : (k : Counts) → r ≡ Ok k → Indexed W.mesh → length (at k).mesh.particles ≡ length W.mesh.particles → Works (λ (R : Run). split_in (Snapped b0 b1) K R v) L W at (Ok k)
   snap_idle k known fit same =
       record {
         went = λ R e z.
             let h = went_on k known R e z in
             let S = split_by_of (Snapped b0 b1) K R v in
             let X = by_indexed (Snapped b0 b1) K R v (subst Indexed (ap (λ (x : World). x.mesh) e) fit) in
-            subst (λ (T : Run). Went L T at (Done k))
+            subst (λ (T : Run). Went L T at (Ok k))
             (slack_idle S X ∙ ap (λ n. slack_run n S) (sym (ap (λ (x : World). length x.mesh.particles) h.2) ∙ same) ∙ sym (snap_run fit R e)) h;
       }
 
 -- a split that came to k is within the rooms
-by_within : (w : Parting) (K : Kind) (v : ℕ) {L : Rooms} {W : World} {at : Counts → World} (r : Ran) → Works (λ (R : Run). split_by_of w K R v) L W at r → (k : Counts) → r ≡ Done k → (l : List Entry) → W.log ≡ map words_of l → Within k L
+by_within : (w : Parting) (K : Kind) (v : ℕ) {L : Rooms} {W : World} {at : Counts → World} (r : Ran) → Works (λ (R : Run). split_by_of w K R v) L W at r → (k : Counts) → r ≡ Ok k → (l : List Entry) → W.log ≡ map words_of l → Within k L
 unfolding first_fault
 by_within w K v {L} {W} {at} r F k known l e =
     let R : Run = record { mesh = W.mesh; log = l; needs = [] } in
@@ -228,23 +229,23 @@ by_within w K v {L} {W} {at} r F k known l e =
 
 -- the same of any parting
 module _ (K : Kind) (v : ℕ) {L : Rooms} {W : World} {at : Counts → World} (r : Ran) where
-  pub in_refused : (w : Parting) {at' : Counts → World} (c : ℕ) → r ≡ Refused c → Indexed W.mesh → Works (λ (R : Run). split_by_of w K R v) L W at r → Works (λ (R : Run). split_in w K R v) L W at' r
+  pub in_refused : (w : Parting) {at' : Counts → World} (c : Refusal) → r ≡ Err c → Indexed W.mesh → Works (λ (R : Run). split_by_of w K R v) L W at r → Works (λ (R : Run). split_in w K R v) L W at' r
   unfolding split_in
   in_refused Free {at'} c known fit F = known_refused {at = at} {at' = at'} r c known F
   in_refused (BladeFrom rule b0 b1) {at'} c known fit F = known_refused {at = at} {at' = at'} r c known F
   in_refused (Snapped b0 b1) c known fit F = snap_refused b0 b1 K v r F c known fit
 
   -- nothing is made slack
-  pub in_plain : (w : Parting) (k : Counts) (before after : ℕ) → r ≡ Done k → Indexed W.mesh → length W.mesh.particles ≡ before → length (at k).mesh.particles ≡ after → slackens? w before after ≡ false
-      → Works (λ (R : Run). split_by_of w K R v) L W at r → Works (λ (R : Run). split_in w K R v) L W at (Done k)
+  pub in_plain : (w : Parting) (k : Counts) (before after : ℕ) → r ≡ Ok k → Indexed W.mesh → length W.mesh.particles ≡ before → length (at k).mesh.particles ≡ after → slackens? w before after ≡ false
+      → Works (λ (R : Run). split_by_of w K R v) L W at r → Works (λ (R : Run). split_in w K R v) L W at (Ok k)
   unfolding split_in
-  in_plain Free k b a known fit f g s F = works_known r (Done k) known F
-  in_plain (BladeFrom rule b0 b1) k b a known fit f g s F = works_known r (Done k) known F
+  in_plain Free k b a known fit f g s F = works_known r (Ok k) known F
+  in_plain (BladeFrom rule b0 b1) k b a known fit f g s F = works_known r (Ok k) known F
   in_plain (Snapped b0 b1) k b a known fit f g s F = snap_idle b0 b1 K v r F k known fit (g ∙ sym (eqb-true b a (of_not_false (eqb b a) (sym s))) ∙ sym f)
 
   -- the edges at the copies are
-  pub in_slack : (w : Parting) {at' : Counts → World} (k : Counts) (before after : ℕ) → r ≡ Done k → Indexed W.mesh → length W.mesh.particles ≡ before → slackens? w before after ≡ true → at' k ≡ slack_world before (at k)
-      → Works (λ (R : Run). split_by_of w K R v) L W at r → Works (λ (R : Run). split_in w K R v) L W at' (Done k)
+  pub in_slack : (w : Parting) {at' : Counts → World} (k : Counts) (before after : ℕ) → r ≡ Ok k → Indexed W.mesh → length W.mesh.particles ≡ before → slackens? w before after ≡ true → at' k ≡ slack_world before (at k)
+      → Works (λ (R : Run). split_by_of w K R v) L W at r → Works (λ (R : Run). split_in w K R v) L W at' (Ok k)
   in_slack Free k b a known fit f s E F = absurd (false≢true s)
   in_slack (BladeFrom rule b0 b1) k b a known fit f s E F = absurd (false≢true s)
   in_slack (Snapped b0 b1) k b a known fit f s E F = snap_done b0 b1 K v r F k known fit (E ∙ ap (λ n. slack_world n (at k)) (sym f))
@@ -269,16 +270,16 @@ module _ (w : Parting) (K : Kind) (v : ℕ) (k : Counts) (points : List Float) (
   count = particles_count k points roots corners volumes ends lengths outline
 
   -- the plain split lacks room
-  pub blocks_refused : {at at' : Counts → World} (r : Ran) (c : ℕ) → r ≡ Refused c → Works plain L world at r → Works slacked L world at' r
+  pub blocks_refused : {at at' : Counts → World} (r : Ran) (c : Refusal) → r ≡ Err c → Works plain L world at r → Works slacked L world at' r
   blocks_refused {at} {at'} r c known F = in_refused K v {at = at} r w {at' = at'} c known fit F
 
   -- nothing is made slack
-  pub blocks_plain : (points' : List Float) (roots' corners' : List ℕ) (ends' : List ℕ) (lengths' : List Float) (outline' log' : List ℕ) (r : Ran) (next : Counts) → r ≡ Done next → slackens? w k.particles next.particles ≡ false
-      → Works plain L world (λ q. world_at q points' roots' corners' volumes ends' lengths' outline' log') r → Works slacked L world (λ q. world_at q points' roots' corners' volumes ends' lengths' outline' log') (Done next)
+  pub blocks_plain : (points' : List Float) (roots' corners' : List ℕ) (ends' : List ℕ) (lengths' : List Float) (outline' log' : List ℕ) (r : Ran) (next : Counts) → r ≡ Ok next → slackens? w k.particles next.particles ≡ false
+      → Works plain L world (λ q. world_at q points' roots' corners' volumes ends' lengths' outline' log') r → Works slacked L world (λ q. world_at q points' roots' corners' volumes ends' lengths' outline' log') (Ok next)
   blocks_plain points' roots' corners' ends' lengths' outline' log' r next known s F = in_plain K v r w next k.particles next.particles known fit count (world_count next points' roots' corners' volumes ends' lengths' outline' log') s F
 
   -- its edges are there
-  pub blocks_edges : {at : Counts → World} (r : Ran) (next : Counts) → r ≡ Done next → Works plain L world at r → Logged k.log log → (le ll : ℕ) → le ≡ I.ends → ll ≡ I.lengths → EdgesHere next.edges le ll
+  pub blocks_edges : {at : Counts → World} (r : Ran) (next : Counts) → r ≡ Ok next → Works plain L world at r → Logged k.log log → (le ll : ℕ) → le ≡ I.ends → ll ≡ I.lengths → EdgesHere next.edges le ll
   unfolding world_at
   blocks_edges r next known F G le ll e f =
       let b : next.edges ≤ L.edges = (by_within w K v r F next known G.entries G.words).edges in
@@ -287,8 +288,8 @@ module _ (w : Parting) (K : Kind) (v : ℕ) (k : Counts) (points : List Float) (
       record { ends = omega arith; lengths = omega arith }
 
   -- they are slack behind it
-  pub blocks_slack : (points' : List Float) (roots' corners' : List ℕ) (ends' : List ℕ) (lengths' lengths'' : List Float) (outline' log' : List ℕ) (r : Ran) (next : Counts) → r ≡ Done next → slackens? w k.particles next.particles ≡ true
+  pub blocks_slack : (points' : List Float) (roots' corners' : List ℕ) (ends' : List ℕ) (lengths' lengths'' : List Float) (outline' log' : List ℕ) (r : Ran) (next : Counts) → r ≡ Ok next → slackens? w k.particles next.particles ≡ true
       → Works plain L world (λ q. world_at q points' roots' corners' volumes ends' lengths' outline' log') r → SlackFrom k.particles next.edges ends' lengths' lengths''
-      → Works slacked L world (λ q. world_at q points' roots' corners' volumes ends' lengths'' outline' log') (Done next)
+      → Works slacked L world (λ q. world_at q points' roots' corners' volumes ends' lengths'' outline' log') (Ok next)
   blocks_slack points' roots' corners' ends' lengths' lengths'' outline' log' r next known s F S =
       in_slack K v r w next k.particles next.particles known fit count s (slack_world_lem k.particles next points' roots' corners' volumes ends' lengths' lengths'' outline' log' S) F

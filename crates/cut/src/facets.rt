@@ -45,7 +45,7 @@ fn part_fan(
     ensures { SidesFor way (kind_is kind) v n verts.now points.now sides.new }
 {
     match way {
-        Parting::Free => columns::clear_usize(0, sides),
+        Parting::Free => columns::clear(0, sides),
         Parting::Blade(rule, b0, b1) => {
             blade_sides(rule, kind, b0, b1, v, n, verts, points, sides)
         }
@@ -55,7 +55,7 @@ fn part_fan(
     }
 }
 
-// Splits v by the sides of its fan, in tables with room for any fan. The straddlers are listed.
+// Splits v by the sides of its fan, in tables with room for any fan. The straddlers are listed. (Not one function with `split_one`: how large the fan is is known once small tables are filled.)
 fn split_many(
     way: Parting,
     kind: Kind,
@@ -229,13 +229,10 @@ fn split_next(
     ensures { let K = kind_is kind in WorksIn (λ R. split_in way K R v) room k points roots corners volumes ends lengths outline log result
         × LinkedBehind K corners ends outline links result }
 {
-    let ran = split_one(
+    let next = split_one(
         way, kind, v, k, room, points, roots, corners, volumes, ends, lengths, outline, log, list,
         links,
-    );
-    let Ran::Done(next) = ran else {
-        return ran;
-    };
+    )?;
     edge_drops::close(
         next.edges,
         list,
@@ -244,10 +241,10 @@ fn split_next(
         &mut links[links::EDGES_FROM..links::SIDES_FROM],
     );
     if !slackens(way, k.particles, next.particles) {
-        return Ran::Done(next);
+        return Ok(next);
     }
     slack::slacken_from(k.particles, next.edges, ends, lengths);
-    Ran::Done(next)
+    Ok(next)
 }
 
 // Splits each marked particle below p, in rising order, until one lacks room. All share the lent list.
@@ -275,23 +272,17 @@ pub fn split_marked(
         corners volumes ends lengths outline log result × LinkedBehind K corners ends outline links result }
 {
     let mut counts = k;
-    let mut v: usize = 0;
-    while v < p {
+    for v in 0..p {
         if marks[v] != 1 {
-            v += 1;
             continue;
         }
-        let ran = split_next(
+        let next = split_next(
             way, kind, v, counts, room, points, roots, corners, volumes, ends, lengths, outline,
             log, list, links,
-        );
-        let Ran::Done(next) = ran else {
-            return ran;
-        };
+        )?;
         counts = next;
-        v += 1;
     }
-    Ran::Done(counts)
+    Ok(counts)
 }
 
 // Splits the particles near a split that were left joining two pieces alone. The list first holds which particles are near.
@@ -362,7 +353,7 @@ pub fn cut_facets(
         × LinkedBehind Triangles corners ends outline links result }
 {
     particles::mark_candidates(rule, b0, b1, k.triangles, points, corners, marks);
-    let ran = split_marked(
+    let counts = split_marked(
         Parting::Blade(rule, b0, b1),
         Kind::Triangles,
         k.particles,
@@ -379,15 +370,12 @@ pub fn cut_facets(
         log,
         list,
         links,
-    );
-    let Ran::Done(counts) = ran else {
-        return ran;
-    };
+    )?;
     if particles::any_split(counts.log, log) {
         return split_pinched(
             counts, room, points, roots, corners, volumes, ends, lengths, outline, log, marks,
             list, links,
         );
     }
-    Ran::Done(counts)
+    Ok(counts)
 }

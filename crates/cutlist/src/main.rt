@@ -5,7 +5,6 @@ ghost use Rattle.std.specs.Prelude.{◌≡◌, ◌≤◌, length, take};
 ghost use Rattle.io.specs.Counts.{IsPrefixLen};
 ghost use Rattle.sheetcut.specs.SheetCut.{listed};
 
-use listing::Written;
 use std::io;
 use std::io::Write;
 
@@ -16,8 +15,8 @@ fn list_sheet(sheet: &[u8], out: &mut [u8]) -> usize
 {
     let told = sheetcut::list_cut(sheet, out);
     match told {
-        Written::Bytes(n) => n,
-        Written::Short => 0,
+        Some(n) => n,
+        None => 0,
     }
 }
 

@@ -13,15 +13,13 @@ use Rattle.lists.specs.Lists.{pick, each, same_row_of}
 use Rattle.lists.proofs.Sifts.{each_append}
 use Rattle.listing.specs.Listing.{decimal}
 use Rattle.listing.specs.Work.{Appends}
-use Rattle.listing.specs.declared.Written.{Written}
+use Rattle.std.specs.Prelude.{Option as Opt, None, Some}
 use Rattle.listing.proofs.Appending.{appends_none, appends_then, appends_as}
 use Rattle.sheet.proofs.CoordLaws.{coord_low, coord_high}
 use Rattle.differences.specs.Differences.{Difference, counts, place, blades, signed, coord_text, texts_of, reading_of, apart, both_readings, count_word, blade_word, word_of, plural_of, line_of}
 use Rattle.differences.specs.Work.{same_reading_of, row_by, as_row, Coords, CoordsRead, Lists}
 use Rattle.differences.specs.declared.Part.{Part}
 use Rattle.differences.specs.declared.Part.TheVariants.{Particles, Triangles, Edges, Boundary}
-use Rattle.differences.specs.declared.Reading.{Reading}
-use Rattle.differences.specs.declared.Reading.TheVariants.{Missing, Row}
 use Rattle.differences.specs.declared.lines.Lines.{Lines}
 
 -- ---- rows
@@ -71,8 +69,8 @@ unfolding same_row_of
 two_tell p x y z u v w s e f = subst (λ (q : Part). true ≡ same_row_of (row_by q x y z) (row_by q u v w)) (sym s) (rw (eq-eqb x u e, eq-eqb y v f))
 
 -- two readings
-pub both_rows : (p : Part) (r s : Reading) (x y z u v w : ℕ) (q : Bool) → r ≡ Row x y z → s ≡ Row u v w → q ≡ same_row_of (row_by p x y z) (row_by p u v w) → q ≡ same_reading_of (as_row p r) (as_row p s)
-both_rows p r s x y z u v w q e f h = h ∙ sym (ap₂ (λ (a b : Reading). same_reading_of (as_row p a) (as_row p b)) e f)
+pub both_rows : (p : Part) (r s : Opt (ℕ × ℕ × ℕ)) (x y z u v w : ℕ) (q : Bool) → r ≡ Some (x, y, z) → s ≡ Some (u, v, w) → q ≡ same_row_of (row_by p x y z) (row_by p u v w) → q ≡ same_reading_of (as_row p r) (as_row p s)
+both_rows p r s x y z u v w q e f h = h ∙ sym (ap₂ (λ (a b : Opt (ℕ × ℕ × ℕ)). same_reading_of (as_row p a) (as_row p b)) e f)
 
 -- four fields
 pub four_tell : (a b c d x y z w : ℕ) → a ≡ x → b ≡ y → c ≡ z → eqb d w ≡ same_row_of (a ∷ b ∷ c ∷ d ∷ []) (x ∷ y ∷ z ∷ w ∷ [])
@@ -99,25 +97,25 @@ three_joined a b c = simp (append_assoc, append-nil)
 four_joined : (a b c d : List ℕ) → a ++ (b ++ (c ++ [])) ++ d ≡ a ++ (b ++ (c ++ (d ++ [])))
 four_joined a b c d = simp (append_assoc, append-nil)
 
-module _ {s s₁ : List ℕ} {at r₁ : Written} where
+module _ {s s₁ : List ℕ} {at r₁ : Opt ℕ} where
   -- a coordinate that is not below 0, and one that is
   pub coord_plain : (n : ℕ) → n < 1024 → Appends (apart (decimal n)) s at s₁ r₁ → Appends (apart (coord_text n)) s at s₁ r₁
   coord_plain n h a = appends_as a (ap (λ (z : ℤ). apart (signed z)) (sym (coord_low n h)))
 
-  pub coord_minus : {s₂ : List ℕ} {r₂ : Written} (n m : ℕ) → 1024 ≤ n → n < 2048 → m ≡ 2048 - n → Appends (32 ∷ 45 ∷ []) s at s₁ r₁ → Appends (decimal m) s₁ r₁ s₂ r₂ → Appends (apart (coord_text n)) s at s₂ r₂
+  pub coord_minus : {s₂ : List ℕ} {r₂ : Opt ℕ} (n m : ℕ) → 1024 ≤ n → n < 2048 → m ≡ 2048 - n → Appends (32 ∷ 45 ∷ []) s at s₁ r₁ → Appends (decimal m) s₁ r₁ s₂ r₂ → Appends (apart (coord_text n)) s at s₂ r₂
   coord_minus n m l h e a b =
       let f : m ≡ suc (2047 - n) = omega arith in
       appends_as (appends_then a b) (ap (λ (k : ℕ). 32 ∷ 45 ∷ decimal k) f ∙ ap (λ (z : ℤ). apart (signed z)) (sym (coord_high n l h)))
 
-  pub two_fields : {s₂ : List ℕ} {r₂ : Written} (x y : List ℕ) → Appends (apart x) s at s₁ r₁ → Appends (apart y) s₁ r₁ s₂ r₂ → Appends (each apart (x ∷ y ∷ [])) s at s₂ r₂
+  pub two_fields : {s₂ : List ℕ} {r₂ : Opt ℕ} (x y : List ℕ) → Appends (apart x) s at s₁ r₁ → Appends (apart y) s₁ r₁ s₂ r₂ → Appends (each apart (x ∷ y ∷ [])) s at s₂ r₂
   unfolding each
   two_fields x y a b = appends_as (appends_then a b) (ap (λ (l : List ℕ). apart x ++ apart l) (sym (append-nil y)))
 
-  pub third_field : {s₂ : List ℕ} {r₂ : Written} (x y z : List ℕ) → Appends (each apart (x ∷ y ∷ [])) s at s₁ r₁ → Appends (apart z) s₁ r₁ s₂ r₂ → Appends (each apart (x ∷ y ∷ z ∷ [])) s at s₂ r₂
+  pub third_field : {s₂ : List ℕ} {r₂ : Opt ℕ} (x y z : List ℕ) → Appends (each apart (x ∷ y ∷ [])) s at s₁ r₁ → Appends (apart z) s₁ r₁ s₂ r₂ → Appends (each apart (x ∷ y ∷ z ∷ [])) s at s₂ r₂
   unfolding each
   third_field x y z a b = appends_as (appends_then a b) (three_joined (apart x) (apart y) (apart z))
 
-  pub fourth_field : {s₂ : List ℕ} {r₂ : Written} (x y z w : List ℕ) → Appends (each apart (x ∷ y ∷ z ∷ [])) s at s₁ r₁ → Appends (apart w) s₁ r₁ s₂ r₂ → Appends (each apart (x ∷ y ∷ z ∷ w ∷ [])) s at s₂ r₂
+  pub fourth_field : {s₂ : List ℕ} {r₂ : Opt ℕ} (x y z w : List ℕ) → Appends (each apart (x ∷ y ∷ z ∷ [])) s at s₁ r₁ → Appends (apart w) s₁ r₁ s₂ r₂ → Appends (each apart (x ∷ y ∷ z ∷ w ∷ [])) s at s₂ r₂
   unfolding each
   fourth_field x y z w a b = appends_as (appends_then a b) (four_joined (apart x) (apart y) (apart z) (apart w))
 
@@ -126,12 +124,12 @@ module _ {s s₁ : List ℕ} {at r₁ : Written} where
   as_part p q x y z e a = subst (λ (t : Part). Appends (each apart (texts_of t (row_by t x y z))) s at s₁ r₁) (sym e) a
 
   -- a reading
-  pub as_missing : (p : Part) (r : Reading) → r ≡ Missing → Appends (32 ∷ 45 ∷ []) s at s₁ r₁ → Appends (each apart (reading_of p (as_row p r))) s at s₁ r₁
+  pub as_missing : (p : Part) (r : Opt (ℕ × ℕ × ℕ)) → r ≡ None → Appends (32 ∷ 45 ∷ []) s at s₁ r₁ → Appends (each apart (reading_of p (as_row p r))) s at s₁ r₁
   unfolding each
-  as_missing p r e a = subst (λ (t : Reading). Appends (each apart (reading_of p (as_row p t))) s at s₁ r₁) (sym e) a
+  as_missing p r e a = subst (λ (t : Opt (ℕ × ℕ × ℕ)). Appends (each apart (reading_of p (as_row p t))) s at s₁ r₁) (sym e) a
 
-  pub as_read : (p : Part) (r : Reading) (x y z : ℕ) → r ≡ Row x y z → Appends (each apart (texts_of p (row_by p x y z))) s at s₁ r₁ → Appends (each apart (reading_of p (as_row p r))) s at s₁ r₁
-  as_read p r x y z e a = subst (λ (t : Reading). Appends (each apart (reading_of p (as_row p t))) s at s₁ r₁) (sym e) a
+  pub as_read : (p : Part) (r : Opt (ℕ × ℕ × ℕ)) (x y z : ℕ) → r ≡ Some (x, y, z) → Appends (each apart (texts_of p (row_by p x y z))) s at s₁ r₁ → Appends (each apart (reading_of p (as_row p r))) s at s₁ r₁
+  as_read p r x y z e a = subst (λ (t : Opt (ℕ × ℕ × ℕ)). Appends (each apart (reading_of p (as_row p t))) s at s₁ r₁) (sym e) a
 
   -- a word by its list
   pub as_word : (p q : Part) → p ≡ q → Appends (word_of q) s at s₁ r₁ → Appends (word_of p) s at s₁ r₁
@@ -143,18 +141,18 @@ module _ {s s₁ : List ℕ} {at r₁ : Written} where
 pub coords_of : (p : Part) (x y : ℕ) → p ≡ Particles → Coords p x y → (x < 2048) × (y < 2048)
 coords_of p x y e h = subst (λ (t : Part). Coords t x y) e h
 
-pub coords_read : (p : Part) (r : Reading) (x y z : ℕ) → r ≡ Row x y z → CoordsRead p r → Coords p x y
-coords_read p r x y z e h = subst (λ (t : Reading). CoordsRead p t) e h
+pub coords_read : (p : Part) (r : Opt (ℕ × ℕ × ℕ)) (x y z : ℕ) → r ≡ Some (x, y, z) → CoordsRead p r → Coords p x y
+coords_read p r x y z e h = subst (λ (t : Opt (ℕ × ℕ × ℕ)). CoordsRead p t) e h
 
 -- ---- lines
 
 -- a word, a second part, two readings with ` /` between them, and the end
-pub line_of_lem : {a b x y s s₁ s₂ s₃ s₄ s₅ s₆ : List ℕ} {at r₁ r₂ r₃ r₄ r₅ r₆ : Written} → Appends a s at s₁ r₁ → Appends b s₁ r₁ s₂ r₂ → Appends x s₂ r₂ s₃ r₃ → Appends (32 ∷ 47 ∷ []) s₃ r₃ s₄ r₄
+pub line_of_lem : {a b x y s s₁ s₂ s₃ s₄ s₅ s₆ : List ℕ} {at r₁ r₂ r₃ r₄ r₅ r₆ : Opt ℕ} → Appends a s at s₁ r₁ → Appends b s₁ r₁ s₂ r₂ → Appends x s₂ r₂ s₃ r₃ → Appends (32 ∷ 47 ∷ []) s₃ r₃ s₄ r₄
     → Appends y s₄ r₄ s₅ r₅ → Appends (10 ∷ []) s₅ r₅ s₆ r₆ → Appends (a ++ b ++ (x ++ (32 ∷ 47 ∷ []) ++ y ++ (10 ∷ []))) s at s₆ r₆
 line_of_lem A B X S Y E = appends_as (appends_then (appends_then (appends_then (appends_then (appends_then A B) X) S) Y) E) (simp append_assoc)
 
 -- the same without a second part
-pub line_without : {a x y s s₁ s₃ s₄ s₅ s₆ : List ℕ} {at r₁ r₃ r₄ r₅ r₆ : Written} → Appends a s at s₁ r₁ → Appends x s₁ r₁ s₃ r₃ → Appends (32 ∷ 47 ∷ []) s₃ r₃ s₄ r₄
+pub line_without : {a x y s s₁ s₃ s₄ s₅ s₆ : List ℕ} {at r₁ r₃ r₄ r₅ r₆ : Opt ℕ} → Appends a s at s₁ r₁ → Appends x s₁ r₁ s₃ r₃ → Appends (32 ∷ 47 ∷ []) s₃ r₃ s₄ r₄
     → Appends y s₄ r₄ s₅ r₅ → Appends (10 ∷ []) s₅ r₅ s₆ r₆ → Appends (a ++ (x ++ (32 ∷ 47 ∷ []) ++ y ++ (10 ∷ []))) s at s₆ r₆
 line_without A X S Y E = appends_as (appends_then (appends_then (appends_then (appends_then A X) S) Y) E) (simp append_assoc)
 

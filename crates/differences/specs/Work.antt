@@ -1,13 +1,11 @@
 -- What the workers ask and promise. Only the contracts between workers, and theorems, need this file. Definitions only.
-use Rattle.std.specs.Prelude.{ℕ, zero, suc, ◌+◌, ◌<◌, ◌≡◌, Bool, true, false, ◌&&◌, eqb, List, [], ◌∷◌, length}
+use Rattle.std.specs.Prelude.{ℕ, zero, suc, ◌+◌, ◌<◌, ◌≡◌, Bool, true, false, ◌&&◌, eqb, List, [], ◌∷◌, length, Option as Opt, None, Some}
 use Rattle.std.proofs.Math.Option.{Option, none, some}
 use Rattle.lists.specs.Lists.{pick, each, same_row_of}
 use Rattle.listing.specs.Work.{Appends}
 use Rattle.differences.specs.Differences.{Difference, counts, place, blades, line_of}
 use Rattle.differences.specs.declared.Part.{Part}
 use Rattle.differences.specs.declared.Part.TheVariants.{Particles, Triangles, Edges, Boundary}
-use Rattle.differences.specs.declared.Reading.{Reading}
-use Rattle.differences.specs.declared.Reading.TheVariants.{Missing, Row}
 use Rattle.differences.specs.declared.lines.Lines.{Lines}
 use Rattle.differences.specs.declared.lines.Four.{Four}
 
@@ -80,9 +78,9 @@ row_by Triangles x y z = x ∷ y ∷ z ∷ []
 row_by Edges x y z = x ∷ y ∷ z ∷ []
 row_by Boundary x y z = x ∷ y ∷ []
 
-abbrev pub as_row : Part → Reading → Option (List ℕ)
-as_row p Missing = none
-as_row p (Row x y z) = some (row_by p x y z)
+abbrev pub as_row : Part → Opt (ℕ × ℕ × ℕ) → Option (List ℕ)
+as_row p None = none
+as_row p (Some (x, y, z)) = some (row_by p x y z)
 
 -- the first two fields of a particle are coordinates' fields
 abbrev pub Coords : Part → ℕ → ℕ → Type 0
@@ -91,12 +89,12 @@ Coords Triangles x y = Unit {0}
 Coords Edges x y = Unit {0}
 Coords Boundary x y = Unit {0}
 
-abbrev pub CoordsRead : Part → Reading → Type 0
-CoordsRead p Missing = Unit {0}
-CoordsRead p (Row x y z) = Coords p x y
+abbrev pub CoordsRead : Part → Opt (ℕ × ℕ × ℕ) → Type 0
+CoordsRead p None = Unit {0}
+CoordsRead p (Some (x, y, z)) = Coords p x y
 
 -- what the line of a place asks
-pub record Placing (p : Part) (r s : Reading) (count : ℕ) : Type 0 where
+pub record Placing (p : Part) (r s : Opt (ℕ × ℕ × ℕ)) (count : ℕ) : Type 0 where
   pub first : CoordsRead p r
   pub second : CoordsRead p s
   pub few : count < 4096

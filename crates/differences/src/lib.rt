@@ -11,10 +11,3 @@ pub enum Part {
     Edges,
     Boundary,
 }
-
-// The reading of a place: the fields of its row, of which a boundary entry has the first two; or the sheet has no such place.
-#[derive(Clone, Copy)]
-pub enum Reading {
-    Missing,
-    Row(usize, usize, usize),
-}

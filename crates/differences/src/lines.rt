@@ -6,13 +6,12 @@ ghost use Rattle.listing.specs.Work.{Appends};
 ghost use Rattle.differences.specs.Differences.{counts, blades, coord_text, texts_of, reading_of, apart, word_of, plural_of};
 ghost use Rattle.differences.specs.Work.{same_reading_of, place_differs, row_by, as_row, Coords, CoordsRead, Lists, four_of, Placing, FourFits, Blading};
 
-use crate::{Part, Reading};
-use listing::Written;
+use crate::Part;
 
 // How far the lines of differences are written: the text, and how many lines it has.
 #[derive(Clone, Copy)]
 pub struct Lines {
-    pub at: Written,
+    pub at: Option<usize>,
     pub count: usize,
 }
 
@@ -26,7 +25,7 @@ pub struct Four {
 }
 
 // Writes a space and a number behind the text.
-fn put_plain(out: &mut [u8], at: Written, n: usize) -> Written
+fn put_plain(out: &mut [u8], at: Option<usize>, n: usize) -> Option<usize>
     ensures { Appends (apart (decimal n)) out.old at out.new result }
 {
     let space = listing::put_byte(out, at, b' ');
@@ -34,7 +33,7 @@ fn put_plain(out: &mut [u8], at: Written, n: usize) -> Written
 }
 
 // Writes a space and the coordinate of a field behind the text.
-fn put_coord(out: &mut [u8], at: Written, raw: usize) -> Written
+fn put_coord(out: &mut [u8], at: Option<usize>, raw: usize) -> Option<usize>
     requires { raw < 2048 }
     ensures { Appends (apart (coord_text raw)) out.old at out.new result }
 {
@@ -46,7 +45,7 @@ fn put_coord(out: &mut [u8], at: Written, raw: usize) -> Written
 }
 
 // Writes two numbers, each behind a space.
-fn put_two(out: &mut [u8], at: Written, x: usize, y: usize) -> Written
+fn put_two(out: &mut [u8], at: Option<usize>, x: usize, y: usize) -> Option<usize>
     ensures { Appends (each apart (map decimal (x ∷ y ∷ []))) out.old at out.new result }
 {
     let first = put_plain(out, at, x);
@@ -54,7 +53,7 @@ fn put_two(out: &mut [u8], at: Written, x: usize, y: usize) -> Written
 }
 
 // Writes three numbers, each behind a space.
-fn put_three(out: &mut [u8], at: Written, x: usize, y: usize, z: usize) -> Written
+fn put_three(out: &mut [u8], at: Option<usize>, x: usize, y: usize, z: usize) -> Option<usize>
     ensures { Appends (each apart (map decimal (x ∷ y ∷ z ∷ []))) out.old at out.new result }
 {
     let two = put_two(out, at, x, y);
@@ -62,7 +61,14 @@ fn put_three(out: &mut [u8], at: Written, x: usize, y: usize, z: usize) -> Writt
 }
 
 // Writes the fields of a row, each behind a space.
-fn put_row(out: &mut [u8], at: Written, part: Part, x: usize, y: usize, z: usize) -> Written
+fn put_row(
+    out: &mut [u8],
+    at: Option<usize>,
+    part: Part,
+    x: usize,
+    y: usize,
+    z: usize,
+) -> Option<usize>
     requires { Coords part x y }
     ensures { Appends (each apart (texts_of part (row_by part x y z))) out.old at out.new result }
 {
@@ -78,19 +84,24 @@ fn put_row(out: &mut [u8], at: Written, part: Part, x: usize, y: usize, z: usize
     }
 }
 
-// Writes a reading: its fields, each behind a space, or a dash where there is no such place.
-fn put_reading(out: &mut [u8], at: Written, part: Part, r: Reading) -> Written
+// Writes the reading of a place: the fields of its row, each behind a space, of which a boundary entry has the first two; or a dash where there is no such place.
+fn put_reading(
+    out: &mut [u8],
+    at: Option<usize>,
+    part: Part,
+    r: Option<(usize, usize, usize)>,
+) -> Option<usize>
     requires { CoordsRead part r }
     ensures { Appends (each apart (reading_of part (as_row part r))) out.old at out.new result }
 {
     match r {
-        Reading::Missing => listing::put_text(out, at, b" -"),
-        Reading::Row(x, y, z) => put_row(out, at, part, x, y, z),
+        None => listing::put_text(out, at, b" -"),
+        Some((x, y, z)) => put_row(out, at, part, x, y, z),
     }
 }
 
 // Writes the word of a list's entry.
-fn put_word(out: &mut [u8], at: Written, part: Part) -> Written
+fn put_word(out: &mut [u8], at: Option<usize>, part: Part) -> Option<usize>
     ensures { Appends (word_of part) out.old at out.new result }
 {
     match part {
@@ -102,7 +113,7 @@ fn put_word(out: &mut [u8], at: Written, part: Part) -> Written
 }
 
 // Writes a list's name behind a space.
-fn put_name(out: &mut [u8], at: Written, part: Part) -> Written
+fn put_name(out: &mut [u8], at: Option<usize>, part: Part) -> Option<usize>
     ensures { Appends (apart (plural_of part)) out.old at out.new result }
 {
     match part {
@@ -132,23 +143,34 @@ fn same_row(part: Part, x: usize, y: usize, z: usize, u: usize, v: usize, w: usi
 }
 
 // Whether two readings of a place are the same.
-fn same_reading(part: Part, r: Reading, s: Reading) -> bool
+fn same_reading(
+    part: Part,
+    r: Option<(usize, usize, usize)>,
+    s: Option<(usize, usize, usize)>,
+) -> bool
     ensures { result ≡ same_reading_of (as_row part r) (as_row part s) }
 {
     match r {
-        Reading::Missing => match s {
-            Reading::Missing => true,
-            Reading::Row(u, v, w) => false,
+        None => match s {
+            None => true,
+            Some((u, v, w)) => false,
         },
-        Reading::Row(x, y, z) => match s {
-            Reading::Missing => false,
-            Reading::Row(u, v, w) => same_row(part, x, y, z, u, v, w),
+        Some((x, y, z)) => match s {
+            None => false,
+            Some((u, v, w)) => same_row(part, x, y, z, u, v, w),
         },
     }
 }
 
 // Writes the line of a place, where its readings differ.
-pub fn put_place(out: &mut [u8], l: Lines, part: Part, k: usize, r: Reading, s: Reading) -> Lines
+pub fn put_place(
+    out: &mut [u8],
+    l: Lines,
+    part: Part,
+    k: usize,
+    r: Option<(usize, usize, usize)>,
+    s: Option<(usize, usize, usize)>,
+) -> Lines
     requires { Placing part r s l.count }
     ensures { Lists (place_differs part k (as_row part r) (as_row part s)) out.old l out.new result }
 {
@@ -206,7 +228,7 @@ fn same_four(a: Four, b: Four) -> bool
 }
 
 // Writes the coordinates of a blade, each behind a space.
-fn put_four(out: &mut [u8], at: Written, f: Four) -> Written
+fn put_four(out: &mut [u8], at: Option<usize>, f: Four) -> Option<usize>
     requires { FourFits f }
     ensures { Appends (each apart (map coord_text (four_of f))) out.old at out.new result }
 {

@@ -14,9 +14,8 @@ use Rattle.outline.specs.Outline.{at, faces_of, single, outline_of_triangles, ou
 use Rattle.sheet.specs.Sheet.{Sheet, FitSheet, counts_at, counts_of, sheet_with, triangle_w, edge_w, boundary_w}
 use Rattle.sheet.specs.declared.Counts.{Counts}
 use Rattle.sheet.proofs.There.{limits}
-use Rattle.edition.specs.Edition.{second, bits_in_of, own_of, outline_in, typed_of, sheet_of, seen_of}
+use Rattle.edition.specs.Edition.{second, bits_in_of, own_of, outline_in, typed_of, sheet_of, seen_of, whole_with}
 use Rattle.edition.specs.Work.{TypedIn}
-use Rattle.edition.specs.declared.Seen.TheVariants.{Whole}
 use Rattle.edition.proofs.Starts.{typed_in}
 use Rattle.edition.proofs.Fields.{typed_counts_lem, typed_fit}
 use Rattle.edition.proofs.Counted.{sheet_counts}
@@ -74,7 +73,7 @@ outline_fit false s f g h = pick_by (FitAll boundary_w) (same_sides_of s.boundar
 
 -- ---- a sheet that is whole
 
-module _ (lim : Counts) (s : List ℕ) (c : Counts) (f : Bool) (whole : seen_of lim s ≡ Whole c f) where
+module _ (lim : Counts) (s : List ℕ) (c : Counts) (f : Bool) (whole : seen_of lim s ≡ whole_with c f) where
   abbrev l : List ℕ
   l = bits_of s
 

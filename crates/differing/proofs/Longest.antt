@@ -12,8 +12,10 @@ use Rattle.bits.specs.Bits.{bits_of}
 use Rattle.sheet.specs.Sheet.{above, limits, too_many_of, counts_at}
 use Rattle.sheet.specs.declared.Counts.{Counts}
 use Rattle.edition.specs.Edition.{bits_in_of, seen_in, seen_of}
+use Rattle.std.specs.Prelude.{Result, Ok, Err}
+use Rattle.mesh.specs.declared.refusals.Refusal.{Refusal}
+use Rattle.mesh.specs.declared.refusals.Refusal.TheVariants.{Size, Sheet}
 use Rattle.edition.specs.declared.Seen.{Seen}
-use Rattle.edition.specs.declared.Seen.TheVariants.{Whole, Refused}
 use Rattle.edition.proofs.Joins.{counts_join}
 use Rattle.edition.proofs.Limited.{typed_long, too_long}
 use Rattle.differing.specs.Differed.{differed_seen, differed}
@@ -24,8 +26,8 @@ abbrev counts_in : List ℕ → Counts
 counts_in s = counts_at (bits_in_of (bits_of s))
 
 -- what too many bytes are answered, by their counts
-abbrev verdict : Bool → Seen
-verdict t = Refused (pick t 1 9)
+abbrev verdict : Bool → Result Seen Refusal
+verdict t = Err (pick t Size Sheet)
 
 abbrev over : Counts → Bool
 over c = too_many_of c || above limits c
@@ -42,28 +44,28 @@ seen_join a b h =
 -- ---- what is printed
 
 -- a refused sheet is told by its number alone
-first_told : (t : Bool) (v : Seen) (a c b : List ℕ) → differed_seen (verdict t) v a b ≡ differed_seen (verdict t) v c b
+first_told : (t : Bool) (v : Result Seen Refusal) (a c b : List ℕ) → differed_seen (verdict t) v a b ≡ differed_seen (verdict t) v c b
 unfolding differed_seen
 first_told true v a c b = refl
 first_told false v a c b = refl
 
-second_told : (u : Seen) (t : Bool) (a b c : List ℕ) → differed_seen u (verdict t) a b ≡ differed_seen u (verdict t) a c
+second_told : (u : Result Seen Refusal) (t : Bool) (a b c : List ℕ) → differed_seen u (verdict t) a b ≡ differed_seen u (verdict t) a c
 unfolding differed_seen
-second_told (Refused n) t a b c = refl
-second_told (Whole d f) true a b c = refl
-second_told (Whole d f) false a b c = refl
+second_told (Err n) t a b c = refl
+second_told (Ok d) true a b c = refl
+second_told (Ok d) false a b c = refl
 
 pub long_first : (a x b : List ℕ) → 2173 ≤ length a → differed (a ++ x) b ≡ differed a b
 long_first a x b h =
     let v = seen_of limits b in
     let t = over (counts_in a) in
-    ap (λ (w : Seen). differed_seen w v (a ++ x) b) (seen_join a x h ∙ seen_long a h) ∙ (first_told t v (a ++ x) a b ∙ ap (λ (w : Seen). differed_seen w v a b) (sym (seen_long a h)))
+    ap (λ (w : Result Seen Refusal). differed_seen w v (a ++ x) b) (seen_join a x h ∙ seen_long a h) ∙ (first_told t v (a ++ x) a b ∙ ap (λ (w : Result Seen Refusal). differed_seen w v a b) (sym (seen_long a h)))
 
 pub long_second : (a b y : List ℕ) → 2173 ≤ length b → differed a (b ++ y) ≡ differed a b
 long_second a b y h =
     let u = seen_of limits a in
     let t = over (counts_in b) in
-    ap (λ (w : Seen). differed_seen u w a (b ++ y)) (seen_join b y h ∙ seen_long b h) ∙ (second_told u t a (b ++ y) b ∙ ap (λ (w : Seen). differed_seen u w a b) (sym (seen_long b h)))
+    ap (λ (w : Result Seen Refusal). differed_seen u w a (b ++ y)) (seen_join b y h ∙ seen_long b h) ∙ (second_told u t a (b ++ y) b ∙ ap (λ (w : Result Seen Refusal). differed_seen u w a b) (sym (seen_long b h)))
 
 front : (a : List ℕ) → 2173 ≤ length a → 2173 ≤ length (take 2173 a)
 front a h = omega (arith, length-take-le 2173 a h)

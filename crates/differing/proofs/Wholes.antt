@@ -14,16 +14,18 @@ use Rattle.outline_tables.specs.Rows.{sides_at}
 use Rattle.sheet.specs.Sheet.{Sheet, limits, counts_at, counts_of, sheet_with, particle_w, triangle_w, edge_w, blade_w, at_triangles, at_edges, at_blade}
 use Rattle.sheet.specs.Work.{RowsIn}
 use Rattle.sheet.specs.declared.Counts.{Counts}
-use Rattle.edition.specs.Edition.{bits_in_of, typed_of, sheet_of, seen_of}
+use Rattle.edition.specs.Edition.{bits_in_of, typed_of, sheet_of, seen_of, whole_with}
 use Rattle.edition.specs.Work.{BladeAt, start_of}
+use Rattle.std.specs.Prelude.{Result, Ok, Err}
+use Rattle.mesh.specs.declared.refusals.Refusal.{Refusal}
+use Rattle.mesh.specs.Refused.{number_of}
 use Rattle.edition.specs.declared.Seen.{Seen}
-use Rattle.edition.specs.declared.Seen.TheVariants.{Whole, Refused}
 use Rattle.edition.proofs.Starts.{starts_at, header_bits, reach, start_most, typed_within}
 use Rattle.edition.proofs.Limited.{not_above}
 use Rattle.listing.specs.Listing.{decimal, refused_bytes}
 use Rattle.listing.specs.Answers.{Wrote, Told}
 use Rattle.listing.specs.Work.{Appends, Finishes}
-use Rattle.listing.specs.declared.Written.{Written}
+use Rattle.std.specs.Prelude.{Option}
 use Rattle.listing.proofs.Appending.{appends_then, appends_as, wrote}
 use Rattle.listing.proofs.Lengths.{refused_few}
 use Rattle.differences.specs.Differences.{Difference, counts, blades, count_differs, rows_differ, differences, line_of, difference_text}
@@ -41,7 +43,7 @@ use Rattle.row_differences.proofs.Walking.{rows_few, pick_few}
 
 -- ---- a whole sheet
 
-pub first_in : (s : List ℕ) (c : Counts) (f : Bool) (o : List ℕ) → seen_of limits s ≡ Whole c f → sides_at c.boundary o ≡ (sheet_of (bits_of s)).sheet.boundary → length o ≡ 6144 → FirstIn s c o
+pub first_in : (s : List ℕ) (c : Counts) (f : Bool) (o : List ℕ) → seen_of limits s ≡ whole_with c f → sides_at c.boundary o ≡ (sheet_of (bits_of s)).sheet.boundary → length o ≡ 6144 → FirstIn s c o
 first_in s c f o e q b =
     let d = counts_at (bits_in_of (bits_of s)) in
     let n = not_above d (typed_within limits s d (told limits s c f e).typed) in
@@ -247,7 +249,7 @@ all_lines a b c d e f =
     (pick (same_row_of a.blade b.blade) [] (blades a.blade b.blade ∷ []))
 
 -- the number of the lines and the end of the text
-pub text_written : (ds : List Difference) {s s₁ s₂ s₃ s₄ : List ℕ} {l : Lines} {r₂ r₃ r₄ : Written} → Lists ds s start s₁ l → Appends (decimal l.count) s₁ l.at s₂ r₂ → Appends (10 ∷ []) s₂ r₂ s₃ r₃ → Finishes s₃ r₃ s₄ r₄
+pub text_written : (ds : List Difference) {s s₁ s₂ s₃ s₄ : List ℕ} {l : Lines} {r₂ r₃ r₄ : Option ℕ} → Lists ds s start s₁ l → Appends (decimal l.count) s₁ l.at s₂ r₂ → Appends (10 ∷ []) s₂ r₂ s₃ r₃ → Finishes s₃ r₃ s₄ r₄
     → length s₃ ≡ length s → Wrote (difference_text ds) (length s) s₄ r₄
 unfolding difference_text
 text_written ds {s} {s₁} {s₂} {s₃} {s₄} {l} {r₂} {r₃} {r₄} L A B E m =
@@ -256,23 +258,23 @@ text_written ds {s} {s₁} {s₂} {s₃} {s₄} {l} {r₂} {r₃} {r₄} L A B E
 
 -- ---- what is told
 
-pub second_told : (a b : List ℕ) (d : Counts) (g : Bool) (lent : ℕ) (s : List ℕ) (r : Written) → seen_of limits b ≡ Whole d g → Within (read_sheet a) → Within (read_sheet b)
+pub second_told : (a b : List ℕ) (d : Counts) (g : Bool) (lent : ℕ) (s : List ℕ) (r : Option ℕ) → seen_of limits b ≡ whole_with d g → Within (read_sheet a) → Within (read_sheet b)
     → Wrote (difference_text (differences (read_sheet a) (read_sheet b))) lent s r → Told (second_text a b) lent s r
 second_told a b d g lent s r e A B w =
-    subst (λ (x : Seen). Told (seconded x a b) lent s r) (sym e) (record { wrote = w; enough = text_few (read_sheet a) (read_sheet b) A B })
+    subst (λ (x : Result Seen Refusal). Told (seconded x a b) lent s r) (sym e) (record { wrote = w; enough = text_few (read_sheet a) (read_sheet b) A B })
 
-pub second_refused : (a b : List ℕ) (n lent : ℕ) (s : List ℕ) (r : Written) → seen_of limits b ≡ Refused n → n < 18446744073709551616 → Wrote (refused_bytes n) lent s r → Told (second_text a b) lent s r
-second_refused a b n lent s r e h w = subst (λ (x : Seen). Told (seconded x a b) lent s r) (sym e) (record { wrote = w; enough = refused_few n h })
+pub second_refused : (a b : List ℕ) (n : Refusal) (lent : ℕ) (s : List ℕ) (r : Option ℕ) → seen_of limits b ≡ Err n → number_of n < 18446744073709551616 → Wrote (refused_bytes (number_of n)) lent s r → Told (second_text a b) lent s r
+second_refused a b n lent s r e h w = subst (λ (x : Result Seen Refusal). Told (seconded x a b) lent s r) (sym e) (record { wrote = w; enough = refused_few (number_of n) h })
 
-seconded_is : (c : Counts) (f : Bool) (v : Seen) (a b : List ℕ) → seconded v a b ≡ differed_seen (Whole c f) v a b
+seconded_is : (c : Counts) (f : Bool) (v : Result Seen Refusal) (a b : List ℕ) → seconded v a b ≡ differed_seen (whole_with c f) v a b
 unfolding differed_seen
-seconded_is c f (Refused n) a b = refl
-seconded_is c f (Whole d g) a b = refl
+seconded_is c f (Err n) a b = refl
+seconded_is c f (Ok d) a b = refl
 
-pub first_whole : (a b : List ℕ) (c : Counts) (f : Bool) (lent : ℕ) (s : List ℕ) (r : Written) → seen_of limits a ≡ Whole c f → Told (second_text a b) lent s r → Told (differed a b) lent s r
+pub first_whole : (a b : List ℕ) (c : Counts) (f : Bool) (lent : ℕ) (s : List ℕ) (r : Option ℕ) → seen_of limits a ≡ whole_with c f → Told (second_text a b) lent s r → Told (differed a b) lent s r
 first_whole a b c f lent s r e T =
-    subst (λ (x : List ℕ). Told x lent s r) (seconded_is c f (seen_of limits b) a b ∙ ap (λ (x : Seen). differed_seen x (seen_of limits b) a b) (sym e)) T
+    subst (λ (x : List ℕ). Told x lent s r) (seconded_is c f (seen_of limits b) a b ∙ ap (λ (x : Result Seen Refusal). differed_seen x (seen_of limits b) a b) (sym e)) T
 
-pub first_refused : (a b : List ℕ) (n lent : ℕ) (s : List ℕ) (r : Written) → seen_of limits a ≡ Refused n → n < 18446744073709551616 → Wrote (refused_bytes n) lent s r → Told (differed a b) lent s r
+pub first_refused : (a b : List ℕ) (n : Refusal) (lent : ℕ) (s : List ℕ) (r : Option ℕ) → seen_of limits a ≡ Err n → number_of n < 18446744073709551616 → Wrote (refused_bytes (number_of n)) lent s r → Told (differed a b) lent s r
 unfolding differed_seen
-first_refused a b n lent s r e h w = subst (λ (x : Seen). Told (differed_seen x (seen_of limits b) a b) lent s r) (sym e) (record { wrote = w; enough = refused_few n h })
+first_refused a b n lent s r e h w = subst (λ (x : Result Seen Refusal). Told (differed_seen x (seen_of limits b) a b) lent s r) (sym e) (record { wrote = w; enough = refused_few (number_of n) h })

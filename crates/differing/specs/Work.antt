@@ -1,5 +1,5 @@
 -- What the workers ask and promise. Only the contracts between workers, and theorems, need this file. Definitions only.
-use Rattle.std.specs.Prelude.{ℕ, ◌≤◌, ◌≡◌, eqb, List, [], ◌∷◌, ◌++◌, length, drop}
+use Rattle.std.specs.Prelude.{ℕ, ◌≤◌, ◌≡◌, eqb, List, [], ◌∷◌, ◌++◌, length, drop, Some, Result, Ok, Err}
 use Rattle.lists.specs.Lists.{pick, same_row_of}
 use Rattle.bits.specs.Bits.{bits_of}
 use Rattle.bits.specs.Rows.{unpack}
@@ -8,10 +8,10 @@ use Rattle.sheet.specs.Sheet.{Sheet, FitSheet, limits, counts_at, counts_of, bla
 use Rattle.sheet.specs.declared.Counts.{Counts}
 use Rattle.edition.specs.Edition.{bits_in_of, seen_of}
 use Rattle.edition.specs.Work.{TypedIn}
+use Rattle.mesh.specs.declared.refusals.Refusal.{Refusal}
+use Rattle.mesh.specs.Refused.{number_of}
 use Rattle.edition.specs.declared.Seen.{Seen}
-use Rattle.edition.specs.declared.Seen.TheVariants.{Whole, Refused}
 use Rattle.listing.specs.Listing.{refused_bytes}
-use Rattle.listing.specs.declared.Written.TheVariants.{Bytes}
 use Rattle.differences.specs.Differences.{Difference, counts, blades, rows_differ, differences, difference_text}
 use Rattle.differing.specs.Differed.{read_sheet}
 use Rattle.differences.specs.declared.Part.{Part}
@@ -24,7 +24,7 @@ use Rattle.differences.specs.Work.{four_of, FourFits}
 
 -- before the first line
 abbrev pub start : Lines
-start = record { at = Bytes 0; count = 0 }
+start = record { at = Some 0; count = 0 }
 
 -- the difference of a count, where it differs
 abbrev pub one_count : Part → ℕ → ℕ → List Difference
@@ -67,9 +67,9 @@ pub record Going (s : List ℕ) (c : Counts) (o t : List ℕ) (d : Counts) (u : 
   pub few : count ≤ most
 
 -- what is printed where the first sheet is whole
-abbrev pub seconded : Seen → List ℕ → List ℕ → List ℕ
-seconded (Refused n) a b = refused_bytes n
-seconded (Whole d g) a b = difference_text (differences (read_sheet a) (read_sheet b))
+abbrev pub seconded : Result Seen Refusal → List ℕ → List ℕ → List ℕ
+seconded (Err e) a b = refused_bytes (number_of e)
+seconded (Ok d) a b = difference_text (differences (read_sheet a) (read_sheet b))
 
 abbrev pub second_text : List ℕ → List ℕ → List ℕ
 second_text a b = seconded (seen_of limits b) a b

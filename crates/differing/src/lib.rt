@@ -2,14 +2,11 @@
 #![tactic(auto)]
 
 ghost use Rattle.std.specs.Prelude.{length};
-ghost use Rattle.edition.specs.declared.Seen.TheVariants.{Whole};
 ghost use Rattle.listing.specs.Answers.{Wrote, Told};
 ghost use Rattle.differences.specs.Differences.{differences, difference_text};
 ghost use Rattle.differing.specs.Differed.{read_sheet, differed};
 ghost use Rattle.differing.specs.Work.{Going, second_text, FirstIn};
 
-use edition::Seen;
-use listing::Written;
 use sheet::Counts;
 
 pub mod whole;
@@ -31,7 +28,7 @@ fn write_differences(
     d: Counts,
     right: &[usize],
     out: &mut [u8],
-) -> Written
+) -> Option<usize>
     requires { Going first.now c left.now second.now d right.now 0 0 }
     ensures { Wrote (difference_text (differences (read_sheet first.now) (read_sheet second.now))) (length
         out.old) out.new result }
@@ -44,26 +41,32 @@ fn write_differences(
 }
 
 // Looks at the second sheet, where the first is whole.
-fn list_second(first: &[u8], c: Counts, left: &[usize], second: &[u8], out: &mut [u8]) -> Written
+fn list_second(
+    first: &[u8],
+    c: Counts,
+    left: &[usize],
+    second: &[u8],
+    out: &mut [u8],
+) -> Option<usize>
     requires { FirstIn first.now c left.now }
     ensures { Told (second_text first.now second.now) (length out.old) out.new result }
 {
     let mut right = [0usize; 6144];
     let seen = edition::outlines::look_into(second, LIMITS, &mut right);
     match seen {
-        Seen::Whole(d, replaced) => write_differences(first, c, left, second, d, &right, out),
-        Seen::Refused(n) => listing::write_refused(n, out),
+        Ok(k) => write_differences(first, c, left, second, k.counts, &right, out),
+        Err(e) => listing::write_refused(e.number(), out),
     }
 }
 
 // The program from bytes to bytes: the differences of two sheets, or the line of a refusal, of the first before one of the second, and 0 behind it.
-pub fn list_differences(first: &[u8], second: &[u8], out: &mut [u8]) -> Written
+pub fn list_differences(first: &[u8], second: &[u8], out: &mut [u8]) -> Option<usize>
     ensures { Told (differed first.now second.now) (length out.old) out.new result }
 {
     let mut left = [0usize; 6144];
     let seen = edition::outlines::look_into(first, LIMITS, &mut left);
     match seen {
-        Seen::Whole(c, replaced) => list_second(first, c, &left, second, out),
-        Seen::Refused(n) => listing::write_refused(n, out),
+        Ok(k) => list_second(first, k.counts, &left, second, out),
+        Err(e) => listing::write_refused(e.number(), out),
     }
 }

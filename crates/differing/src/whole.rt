@@ -11,7 +11,6 @@ ghost use Rattle.differing.specs.Work.{start, count_lines, BladeRead, list_lines
 
 use differences::Part;
 use differences::lines::{Four, Lines};
-use listing::Written;
 use sheet::Counts;
 
 // Where a sheet's blade begins.
@@ -42,7 +41,7 @@ fn put_counts(out: &mut [u8], c: Counts, d: Counts) -> Lines
     ensures { Lists (count_lines c d) out.old start out.new result }
 {
     let none = Lines {
-        at: Written::Bytes(0),
+        at: Some(0),
         count: 0,
     };
     let one = differences::lines::put_count(out, none, Part::Particles, c.particles, d.particles);

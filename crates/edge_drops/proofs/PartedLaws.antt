@@ -16,10 +16,10 @@ use Rattle.mesh.proofs.Lists.{mesh_path, world_path}
 use Rattle.mesh.specs.declared.Counts.{Counts}
 use Rattle.mesh.specs.declared.Rooms.{Rooms}
 use Rattle.work.specs.Working.{Works}
-use Rattle.work.specs.declared.Ran.{Ran}
-use Rattle.work.specs.declared.Ran.TheVariants.{Refused, Done}
+use Rattle.work.specs.Ran.{Ran}
 use Rattle.edge_drops.specs.Drops.{ListedRoom}
 use Rattle.edge_drops.specs.Parted.{listed, edges_parted, mesh_parted, world_parted, Listing, ListingAfter}
+use Rattle.std.specs.Prelude.{Ok, Err}
 
 -- ---- none is listed
 
@@ -52,7 +52,7 @@ module _ (ends : List ℕ) (lengths : List Float) (list : List ℕ) (none : list
 -- ---- all go
 
 -- behind a worker that is done the list is one of the edges
-pub listing_done : (le ll : ℕ) (list : List ℕ) (r : Ran) (q : Counts) → r ≡ Done q → ListingAfter le ll list r → Listing q.edges le ll list
+pub listing_done : (le ll : ℕ) (list : List ℕ) (r : Ran) (q : Counts) → r ≡ Ok q → ListingAfter le ll list r → Listing q.edges le ll list
 listing_done le ll list r q e X = subst (ListingAfter le ll list) e X
 
 -- what the removal of the listed edges asks
@@ -86,11 +86,11 @@ world_closed q points roots corners volumes ends lengths ends' lengths' outline 
 
 -- the worlds that the blocks may be read as
 pub works_ext : {f : Run → Run} {L : Rooms} {W : World} {at at' : Counts → World} (r : Ran) → ((q : Counts) → at q ≡ at' q) → Works f L W at r → Works f L W at' r
-works_ext (Refused c) same w = record { went = λ R i z. w.went R i z }
-works_ext (Done q) same w = record { went = λ R i z. let g = w.went R i z in (g.0, g.1, sym (same q) ∙ g.2) }
+works_ext (Err c) same w = record { went = λ R i z. w.went R i z }
+works_ext (Ok q) same w = record { went = λ R i z. let g = w.went R i z in (g.0, g.1, sym (same q) ∙ g.2) }
 
 -- the one that it came to alone
-pub works_at : {f : Run → Run} {L : Rooms} {W : World} {at at' : Counts → World} (q : Counts) → at' q ≡ at q → Works f L W at (Done q) → Works f L W at' (Done q)
+pub works_at : {f : Run → Run} {L : Rooms} {W : World} {at at' : Counts → World} (q : Counts) → at' q ≡ at q → Works f L W at (Ok q) → Works f L W at' (Ok q)
 works_at q same w = record { went = λ R i z. let g = w.went R i z in (g.0, g.1, same ∙ g.2) }
 
 -- a worker that listed none
@@ -102,7 +102,7 @@ works_unlisted points roots corners volumes ends lengths outline log list r none
 -- a worker that listed edges, and closed up
 pub works_closed : {f : Run → Run} {L : Rooms} {W : World} (q : Counts) (points : List Float) (roots corners : List ℕ) (volumes : List Float) (ends : List ℕ) (lengths : List Float) (ends' : List ℕ) (lengths' : List Float) (outline log list : List ℕ)
     → edges_at q.edges ends' lengths' ≡ edges_parted q.edges ends lengths list
-    → Works f L W (λ z. world_parted z points roots corners volumes ends lengths outline log list) (Done q)
-    → Works f L W (λ z. world_at z points roots corners volumes ends' lengths' outline log) (Done q)
+    → Works f L W (λ z. world_parted z points roots corners volumes ends lengths outline log list) (Ok q)
+    → Works f L W (λ z. world_at z points roots corners volumes ends' lengths' outline log) (Ok q)
 works_closed q points roots corners volumes ends lengths ends' lengths' outline log list e =
     works_at q (world_closed q points roots corners volumes ends lengths ends' lengths' outline log list e)

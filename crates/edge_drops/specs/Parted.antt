@@ -1,5 +1,5 @@
 -- Listed edges that are to go, and stand in the lent blocks still: what the blocks then mean is the mesh without them. A list has a place for each edge, and place 2,048 says how many are listed. Definitions only.
-use Rattle.std.specs.Prelude.{ℕ, ◌+◌, ◌≤◌, List, length, get_or, take, Float}
+use Rattle.std.specs.Prelude.{ℕ, ◌+◌, ◌≤◌, List, length, get_or, take, Float, Ok, Err}
 use Rattle.lists.specs.LeftOut.{Rising, left_out}
 use Rattle.model.specs.Mesh.{Edge, Mesh}
 use Rattle.model.specs.Run.{Run}
@@ -11,8 +11,7 @@ use Rattle.mesh.specs.declared.Counts.{Counts}
 use Rattle.mesh.specs.declared.Rooms.{Rooms}
 use Rattle.mesh.specs.Limits.{edge_limit}
 use Rattle.work.specs.Working.{Works}
-use Rattle.work.specs.declared.Ran.{Ran}
-use Rattle.work.specs.declared.Ran.TheVariants.{Refused, Done}
+use Rattle.work.specs.Ran.{Ran}
 
 -- how many edges are listed
 abbrev pub listed : List ℕ → ℕ
@@ -46,8 +45,8 @@ pub record Listing (e le ll : ℕ) (list : List ℕ) : Type 0 where
 
 -- behind a worker: where it is done, the list is one of the edges in the blocks
 abbrev pub ListingAfter : ℕ → ℕ → List ℕ → Ran → Type 0
-ListingAfter le ll list (Refused c) = Unit {0}
-ListingAfter le ll list (Done q) = Listing q.edges le ll list
+ListingAfter le ll list (Err c) = Unit {0}
+ListingAfter le ll list (Ok q) = Listing q.edges le ll list
 
 -- ---- as a contract names them
 

@@ -22,8 +22,8 @@ fn close_row(i: usize, m: usize, ends: &mut [usize], lengths: &mut [f32])
     let span = ends.len() / mesh::END_COLUMNS;
     let places = lengths.len() / mesh::LENGTH_COLUMNS;
     let behind = m - 1 - i;
-    columns::shift_block_usize(i, i + 1, behind, 4, span, ends);
-    columns::shift_block_f32(i, i + 1, behind, 4, places, lengths);
+    columns::shift_block(i, i + 1, behind, 4, span, ends);
+    columns::shift_block(i, i + 1, behind, 4, places, lengths);
 }
 
 // Removes edge i of the first m from the table and from the blocks.
@@ -53,11 +53,9 @@ fn drop_rest(
         × EdgesLinked result ends.new table.new }
 {
     let mut left = n;
-    let mut more = s;
-    while more > 0 {
-        drop_row(list[more - 1], left, ends, lengths, table);
+    for more in (0..s).rev() {
+        drop_row(list[more], left, ends, lengths, table);
         left -= 1;
-        more -= 1;
     }
     left
 }
@@ -109,11 +107,10 @@ pub fn close_rows(left: usize, list: &[usize], ends: &mut [usize], lengths: &mut
     ensures { edges_at left ends.new lengths.new ≡ edges_parted left ends.old lengths.old
         list.now }
 {
-    let mut more = list[LISTED];
-    let mut m = left + more;
-    while more > 0 {
-        close_row(list[more - 1], m, ends, lengths);
+    let listed = list[LISTED];
+    let mut m = left + listed;
+    for more in (0..listed).rev() {
+        close_row(list[more], m, ends, lengths);
         m -= 1;
-        more -= 1;
     }
 }

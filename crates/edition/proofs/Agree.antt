@@ -12,16 +12,18 @@ use Rattle.mesh.proofs.Agree.{agree}
 use Rattle.bits.specs.Bits.{bits_of}
 use Rattle.sheet.specs.declared.Counts.{Counts}
 use Rattle.edition.specs.Reading.{ReadDone, world_of, blade_left}
+use Rattle.std.specs.Prelude.{Result}
 use Rattle.edition.specs.declared.Seen.{Seen}
+use Rattle.mesh.specs.declared.refusals.Refusal.{Refusal}
 
 -- two readings of one sheet into blocks of the same lengths
 pub read_agree :
-    (limits : Counts) (s : List ℕ) (L : Lent) (b : List Float) (r r' : Seen) (p p' : List Float) (q q' c c' : List ℕ) (v v' : List Float) (e e' : List ℕ) (l l' : List Float) (o o' g g' : List ℕ) (d d' : List Float)
+    (limits : Counts) (s : List ℕ) (L : Lent) (b : List Float) (r r' : Result Seen Refusal) (p p' : List Float) (q q' c c' : List ℕ) (v v' : List Float) (e e' : List ℕ) (l l' : List Float) (o o' g g' : List ℕ) (d d' : List Float)
     → ReadDone limits s L r p q c v e l o g b d → ReadDone limits s L r' p' q' c' v' e' l' o' g' b d'
     → (r ≡ r') × ((p ≡ p') × (q ≡ q') × (c ≡ c') × (v ≡ v') × (e ≡ e') × (l ≡ l') × (o ≡ o') × (g ≡ g')) × (d ≡ d')
 read_agree limits s L b r r' p p' q q' c c' v v' e e' l l' o o' g g' d d' f h =
     let z : r ≡ r' = f.answer ∙ sym h.answer in (
       z,
-      agree (world_of r (bits_of s)) L p p' q q' c c' v v' e e' l l' o o' g g' f.blocks (subst (λ (x : Seen). Filled (world_of x (bits_of s)) L p' q' c' v' e' l' o' g') (sym z) h.blocks),
-      f.blade ∙ (ap (λ (x : Seen). padded (length b) zero32 (blade_left x (bits_of s))) z ∙ sym h.blade),
+      agree (world_of r (bits_of s)) L p p' q q' c c' v v' e e' l l' o o' g g' f.blocks (subst (λ (x : Result Seen Refusal). Filled (world_of x (bits_of s)) L p' q' c' v' e' l' o' g') (sym z) h.blocks),
+      f.blade ∙ (ap (λ (x : Result Seen Refusal). padded (length b) zero32 (blade_left x (bits_of s))) z ∙ sym h.blade),
     )

@@ -9,8 +9,7 @@ use Rattle.bits.specs.Bits.{bits, bits_of, num}
 use Rattle.bits.specs.Rows.{total, unpack, pack, read_rows, write_rows}
 use Rattle.outline.specs.Outline.{single, outline_of, outline_of_triangles, within, same_sides_of, settled}
 use Rattle.sheet.specs.Sheet.{sheet_with, all_ok, row_ok, pair_ok_of, above, most}
-use Rattle.edition.specs.Edition.{as_first_of, bits_in_of, sheet2_bits, outline_in, replaced_in, typed_of, sheet_of, bytes_in, end_in, typed_with, typed_seen, seen_in, seen_of}
-use Rattle.edition.specs.declared.Seen.TheVariants.{Whole}
+use Rattle.edition.specs.Edition.{as_first_of, bits_in_of, sheet2_bits, outline_in, replaced_in, typed_of, sheet_of, bytes_in, end_in, typed_with, typed_seen, seen_in, seen_of, whole_with}
 use Rattle.sheet.specs.declared.Counts.{Counts}
 use Rattle.sheet.proofs.Cases.{worked, worked_counts}
 
@@ -42,11 +41,11 @@ unfolding worked2
 worked2_length = refl
 
 -- both are whole, with four boundary entries, and not replaced
-pub worked_seen : seen_of most worked ≡ Whole worked_counts false
+pub worked_seen : seen_of most worked ≡ whole_with worked_counts false
 unfolding worked worked_counts seen_in typed_seen typed_with sheet_of replaced_in outline_in typed_of bits_in_of sheet_with bits_of bits num read_rows unpack total same_sides_of within any all outline_of outline_of_triangles single sift each settled all_ok row_ok pair_ok_of above
 worked_seen = refl
 
-pub worked2_seen : seen_of most worked2 ≡ Whole worked_counts false
+pub worked2_seen : seen_of most worked2 ≡ whole_with worked_counts false
 unfolding worked2 worked_counts seen_in typed_seen typed_with sheet_of replaced_in outline_in typed_of bits_in_of as_first_of sheet_with bits_of bits num read_rows unpack total outline_of outline_of_triangles single sift each all_ok row_ok pair_ok_of above
 worked2_seen = refl
 
@@ -59,6 +58,6 @@ worked2_read = refl
 unfoldable pub short : List ℕ
 short = 0 ∷ 128 ∷ 8 ∷ 0 ∷ 128 ∷ 12 ∷ 0 ∷ 0 ∷ 0 ∷ 4 ∷ 0 ∷ 0 ∷ 8 ∷ 1 ∷ 0 ∷ 0 ∷ 2 ∷ 0 ∷ 0 ∷ 4 ∷ 2 ∷ 0 ∷ 0 ∷ 32 ∷ 12 ∷ 0 ∷ 0 ∷ 160 ∷ 8 ∷ 6 ∷ 0 ∷ 0 ∷ 16 ∷ 4 ∷ 2 ∷ 0 ∷ 128 ∷ 63 ∷ 255 ∷ 255 ∷ 192 ∷ 40 ∷ 5 ∷ []
 
-pub short_seen : seen_of most short ≡ Whole worked_counts true
+pub short_seen : seen_of most short ≡ whole_with worked_counts true
 unfolding short worked_counts seen_in typed_seen typed_with sheet_of replaced_in outline_in typed_of bits_in_of sheet_with bits_of bits num read_rows unpack total same_sides_of within any all outline_of outline_of_triangles single sift each settled all_ok row_ok pair_ok_of above
 short_seen = refl

@@ -21,7 +21,8 @@ use Rattle.sheet.specs.declared.Counts.{Counts}
 use Rattle.sheet.proofs.Trip.{same_counts, counts_read, read_of_write, write_of_read}
 use Rattle.sheet.proofs.There.{num_zeros}
 use Rattle.sheet.proofs.SeenLaws.{names_at_lem}
-use Rattle.sheet.specs.declared.Seen.TheVariants.{Whole, Refused}
+use Rattle.std.specs.Prelude.{Ok, Err}
+use Rattle.mesh.specs.declared.refusals.Refusal.TheVariants.{Size, Name, Sheet as NoSheet}
 use Rattle.lists.proofs.Truths.{and_end}
 
 -- the three counts, and all that stands behind them
@@ -305,10 +306,10 @@ module _ (l : List ℕ) (room : 45 ≤ length l) where
 -- what a second-edition sheet is answered
 pub second_with : (limits : Counts) (s : List ℕ) (c : Counts) → c ≡ counts_at (as_first_of (bits_of s)) → second (bits_of s) ≡ true → 6 ≤ length s
     → typed_seen limits s
-    ≡ cond (too_many_of c || above limits c) (Refused 1)
+    ≡ cond (too_many_of c || above limits c) (Err Size)
     (cond (eqb (length s) ((end_of c - 1 + 7) / 8))
-    (cond (eqb (field_at (bits_of s) (end_of c - 1) (8 * ((end_of c - 1 + 7) / 8) - (end_of c - 1))) 0) (cond (names_ok (sheet_with c (as_first_of (bits_of s)))) (Whole c) (Refused 3)) (Refused 9))
-    (Refused 9))
+    (cond (eqb (field_at (bits_of s) (end_of c - 1) (8 * ((end_of c - 1 + 7) / 8) - (end_of c - 1))) 0) (cond (names_ok (sheet_with c (as_first_of (bits_of s)))) (Ok c) (Err Name)) (Err NoSheet))
+    (Err NoSheet))
 unfolding typed_seen typed_with bits_in_of
 second_with limits s c e two h = rw (le-ltb (length s) 6 h, e, two)
 

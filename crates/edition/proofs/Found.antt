@@ -14,11 +14,12 @@ use Rattle.outline_tables.specs.Rows.{sides_at, Listed, Even, SettledBy}
 use Rattle.outline_tables.specs.declared.Settled.{Settled}
 use Rattle.sheet.specs.Sheet.{sheet_with, end_of, triangle_w, edge_w, boundary_w, at_triangles, at_edges, at_boundary}
 use Rattle.sheet.specs.declared.Counts.{Counts}
-use Rattle.sheet.specs.declared.Seen.TheVariants.{Whole as TypedWhole, Refused as TypedRefused}
+use Rattle.std.specs.Prelude.{Ok, Err}
 use Rattle.sheet.proofs.There.{limits}
-use Rattle.edition.specs.Edition.{second, bits_in_of, typed_of, sheet_of, own_of, outline_in, replaced_in, bytes_in, overlong, typed_seen, seen_in, seen_of}
+use Rattle.edition.specs.Edition.{second, bits_in_of, typed_of, sheet_of, own_of, outline_in, replaced_in, bytes_in, overlong, typed_seen, seen_in, seen_of, whole_with}
 use Rattle.edition.specs.Work.{start_of, TypedIn, OutlineFound}
-use Rattle.edition.specs.declared.Seen.TheVariants.{Whole, Refused}
+use Rattle.mesh.specs.declared.refusals.Refusal.{Refusal}
+use Rattle.mesh.specs.declared.refusals.Refusal.TheVariants.{Size}
 use Rattle.edition.proofs.Starts.{starts_at, header_bits}
 use Rattle.edition.proofs.Sides.{own_few, sides_long}
 
@@ -111,7 +112,7 @@ module _ (s : List ℕ) (c : Counts) (t : TypedIn s c) where
       }
 
   -- the answer
-  module _ (lim : Counts) (w : typed_seen lim s ≡ TypedWhole c) (o : List ℕ) (r : Settled) (f : OutlineFound s o r) where
+  module _ (lim : Counts) (w : typed_seen lim s ≡ Ok c) (o : List ℕ) (r : Settled) (f : OutlineFound s o r) where
     pub sides_are : sides_at r.count o ≡ (sheet_of l).sheet.boundary
     unfolding sheet_of
     sides_are = f.sides
@@ -123,15 +124,15 @@ module _ (s : List ℕ) (c : Counts) (t : TypedIn s c) where
     unfolding sheet_of
     told_is = sym f.told
 
-    pub seen_long : overlong lim r.count ≡ true → Refused 1 ≡ seen_of lim s
+    pub seen_long : overlong lim r.count ≡ true → Err Size ≡ seen_of lim s
     unfolding seen_in
     seen_long e = rw (w, count_is, e)
 
     pub seen_whole : overlong lim r.count ≡ false
-        → Whole (record { particles = c.particles; triangles = c.triangles; edges = c.edges; boundary = r.count }) r.replaced ≡ seen_of lim s
+        → whole_with (record { particles = c.particles; triangles = c.triangles; edges = c.edges; boundary = r.count }) r.replaced ≡ seen_of lim s
     unfolding seen_in
     seen_whole e = rw (w, count_is, e, told_is)
 
-pub seen_refused : (lim : Counts) (s : List ℕ) (n : ℕ) → typed_seen lim s ≡ TypedRefused n → Refused n ≡ seen_of lim s
+pub seen_refused : (lim : Counts) (s : List ℕ) (n : Refusal) → typed_seen lim s ≡ Err n → Err n ≡ seen_of lim s
 unfolding seen_in
 seen_refused lim s n e = rw e

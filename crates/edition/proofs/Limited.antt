@@ -11,8 +11,9 @@ use Rattle.lists.specs.Lists.{pick}
 use Rattle.bits.specs.Bits.{bits_of}
 use Rattle.sheet.specs.Sheet.{sheet_with, above, limits, too_many_of, counts_at, names_ok}
 use Rattle.sheet.specs.declared.Counts.{Counts}
-use Rattle.sheet.specs.declared.Seen.{Seen as Typed}
-use Rattle.sheet.specs.declared.Seen.TheVariants.{Whole as TypedWhole, Refused as TypedRefused}
+use Rattle.std.specs.Prelude.{Result, Ok, Err}
+use Rattle.mesh.specs.declared.refusals.Refusal.{Refusal}
+use Rattle.mesh.specs.declared.refusals.Refusal.TheVariants.{Size, Name, Sheet}
 use Rattle.sheet.proofs.PutLaws.{neither}
 use Rattle.edition.specs.Edition.{second, bits_in_of, bytes_in, spare_in, typed_with, typed_seen}
 
@@ -44,19 +45,19 @@ above? s = too_many_of (counts_at (bits_in_of (bits_of s))) || above limits (cou
 abbrev pub TooLong : List ℕ → Type 0
 TooLong s = Few (counts_at (bits_in_of (bits_of s))) → suc (bytes_in (second (bits_of s)) (counts_at (bits_in_of (bits_of s)))) ≤ length s
 
-without : (t u : Bool) (x : Typed) → (t ≡ false → u ≡ false) → cond t (TypedRefused 1) (cond u x (TypedRefused 9)) ≡ TypedRefused (pick t 1 9)
+without : (t u : Bool) (x : Result Counts Refusal) → (t ≡ false → u ≡ false) → cond t (Err Size) (cond u x (Err Sheet)) ≡ Err (pick t Size Sheet)
 without true u x h = refl
-without false u x h = ap (λ (b : Bool). cond b x (TypedRefused 9)) (h refl)
+without false u x h = ap (λ (b : Bool). cond b x (Err Sheet)) (h refl)
 
--- they are refused, by 1 where a count is above its limit, and else by 9
-pub typed_long : (s : List ℕ) → 6 ≤ length s → TooLong s → typed_seen limits s ≡ TypedRefused (pick (above? s) 1 9)
+-- they are refused, for a size where a count is above its limit, and else as no sheet
+pub typed_long : (s : List ℕ) → 6 ≤ length s → TooLong s → typed_seen limits s ≡ Err (pick (above? s) Size Sheet)
 unfolding typed_seen typed_with
 typed_long s six h =
     let l = bits_of s in
     let c = counts_at (bits_in_of l) in
     let n = bytes_in (second l) c in
     rw (le-ltb (length s) 6 six)
-    (without (above? s) (eqb (length s) n) (cond (eqb (spare_in c s) 0) (cond (names_ok (sheet_with c (bits_in_of l))) (TypedWhole c) (TypedRefused 3)) (TypedRefused 9))
+    (without (above? s) (eqb (length s) n) (cond (eqb (spare_in c s) 0) (cond (names_ok (sheet_with c (bits_in_of l))) (Ok c) (Err Name)) (Err Sheet))
     (λ e. ne_eqb (length s) n (λ q. omega (arith, q, h (not_above c (neither (too_many_of c) (above limits c) e).1)))))
 
 -- more than 2,172 bytes are too many

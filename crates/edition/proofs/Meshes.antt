@@ -23,10 +23,11 @@ use Rattle.sheet.specs.Work.{CountsRead, RowsIn, Small}
 use Rattle.sheet.proofs.There.{limits}
 use Rattle.mesh.specs.Given.{Lent}
 use Rattle.sheet_rows.proofs.MeshReads.{particles_read, triangles_read, edges_read, place_same, triangles_same, edges_same}
-use Rattle.edition.specs.Edition.{second, bits_in_of, bounded, typed_of, sheet_of, outline_in}
+use Rattle.edition.specs.Edition.{second, bits_in_of, bounded, typed_of, sheet_of, outline_in, whole_with}
 use Rattle.edition.specs.Work.{start_of, TypedIn, MeshIn, BladeAt, Outlined}
+use Rattle.std.specs.Prelude.{Result}
 use Rattle.edition.specs.declared.Seen.{Seen}
-use Rattle.edition.specs.declared.Seen.TheVariants.{Whole}
+use Rattle.mesh.specs.declared.refusals.Refusal.{Refusal}
 use Rattle.edition.proofs.Starts.{starts_at, rows_at, names_here, header_bits, reach, start_most}
 use Rattle.edition.proofs.Sides.{sides_boundary}
 
@@ -141,5 +142,5 @@ blade_in s p t b =
     record { room = omega (arith, b.is); small = omega (arith, b.is) }
 
 -- the outline beside an answer that is whole
-pub outlined_sides : (r : Seen) (s o : List ℕ) (c : Counts) (f : Bool) → r ≡ Whole c f → Outlined r s o → sides_at c.boundary o ≡ (sheet_of (bits_of s)).sheet.boundary
-outlined_sides r s o c f e h = subst (λ (x : Seen). Outlined x s o) e h
+pub outlined_sides : (r : Result Seen Refusal) (s o : List ℕ) (c : Counts) (f : Bool) → r ≡ whole_with c f → Outlined r s o → sides_at c.boundary o ≡ (sheet_of (bits_of s)).sheet.boundary
+outlined_sides r s o c f e h = subst (λ (x : Result Seen Refusal). Outlined x s o) e h

@@ -13,7 +13,8 @@ use Rattle.bits.proofs.Laws.{length_bits_of}
 use Rattle.sheet.specs.Sheet.{counts_at, sheet_with, too_many_of, above, names_ok, end_of, at_triangles, at_edges, at_boundary}
 use Rattle.sheet.specs.Work.{ok_at_of}
 use Rattle.sheet.specs.declared.Counts.{Counts}
-use Rattle.sheet.specs.declared.Seen.TheVariants.{Whole as TypedWhole, Refused as TypedRefused}
+use Rattle.std.specs.Prelude.{Ok, Err}
+use Rattle.mesh.specs.declared.refusals.Refusal.TheVariants.{Size, Name, Sheet}
 use Rattle.sheet.proofs.PutLaws.{neither}
 use Rattle.sheet.proofs.Back.{never}
 use Rattle.sheet.proofs.SeenLaws.{names_at_lem}
@@ -59,16 +60,16 @@ module _ (l : List ℕ) (room : 45 ≤ length l) where
 
 -- what a look that ends whole went past
 whole : (a b x y z : Bool) (d c : Counts)
-    → cond a (TypedRefused 9) (cond b (TypedRefused 1) (cond x (cond y (cond z (TypedWhole d) (TypedRefused 3)) (TypedRefused 9)) (TypedRefused 9))) ≡ TypedWhole c
+    → cond a (Err Sheet) (cond b (Err Size) (cond x (cond y (cond z (Ok d) (Err Name)) (Err Sheet)) (Err Sheet))) ≡ Ok c
     → (a ≡ false) × (b ≡ false) × (x ≡ true) × (y ≡ true) × (z ≡ true) × (d ≡ c)
-whole true b x y z d c e = absurd (never 9 c e)
-whole false true x y z d c e = absurd (never 1 c e)
-whole false false false y z d c e = absurd (never 9 c e)
-whole false false true false z d c e = absurd (never 9 c e)
-whole false false true true false d c e = absurd (never 3 c e)
+whole true b x y z d c e = absurd (never Sheet c e)
+whole false true x y z d c e = absurd (never Size c e)
+whole false false false y z d c e = absurd (never Sheet c e)
+whole false false true false z d c e = absurd (never Sheet c e)
+whole false false true true false d c e = absurd (never Name c e)
 whole false false true true true d c e = (refl, refl, refl, refl, refl, cc)
 
-whole_sheet : (limits : Counts) (s : List ℕ) (c : Counts) → typed_seen limits s ≡ TypedWhole c → let d = counts_at (bits_in_of (bits_of s)) in
+whole_sheet : (limits : Counts) (s : List ℕ) (c : Counts) → typed_seen limits s ≡ Ok c → let d = counts_at (bits_in_of (bits_of s)) in
     (ltb (length s) 6 ≡ false) × (too_many_of d || above limits d ≡ false) × (eqb (length s) (bytes_in (second (bits_of s)) d) ≡ true) × (eqb (spare_in d s) 0 ≡ true) × (names_ok (sheet_with d (bits_in_of (bits_of s))) ≡ true) × (d ≡ c)
 unfolding typed_seen typed_with
 whole_sheet limits s c e =
@@ -76,14 +77,14 @@ whole_sheet limits s c e =
     whole (ltb (length s) 6) (too_many_of d || above limits d) (eqb (length s) (bytes_in (second (bits_of s)) d)) (eqb (spare_in d s) 0) (names_ok (sheet_with d (bits_in_of (bits_of s)))) d c e
 
 -- a sheet that the typed look finds whole has no count above the limits
-pub typed_within : (limits : Counts) (s : List ℕ) (c : Counts) → typed_seen limits s ≡ TypedWhole c → above limits c ≡ false
+pub typed_within : (limits : Counts) (s : List ℕ) (c : Counts) → typed_seen limits s ≡ Ok c → above limits c ≡ false
 typed_within limits s c e =
     let d = counts_at (bits_in_of (bits_of s)) in
     let w = whole_sheet limits s c e in
     subst (λ (x : Counts). above limits x ≡ false) w.5 (neither (too_many_of d) (above limits d) w.1).1
 
 -- and stands in its bytes
-pub typed_in : (limits : Counts) (s : List ℕ) (c : Counts) → typed_seen limits s ≡ TypedWhole c → TypedIn s c
+pub typed_in : (limits : Counts) (s : List ℕ) (c : Counts) → typed_seen limits s ≡ Ok c → TypedIn s c
 typed_in limits s c e =
     let d = counts_at (bits_in_of (bits_of s)) in
     let w = whole_sheet limits s c e in

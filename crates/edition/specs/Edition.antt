@@ -1,16 +1,14 @@
 -- L13: the second edition of a sheet, which has no boundary entries, and what a sheet of either edition is read as. Definitions only.
-use Rattle.std.specs.Prelude.{ℕ, ◌+◌, ◌-◌, ◌*◌, ◌/◌, Bool, true, false, not, cond, ◌||◌, List, [], ◌∷◌, ◌++◌, length, take, drop, replicate, eqb, ltb}
+use Rattle.std.specs.Prelude.{ℕ, ◌+◌, ◌-◌, ◌*◌, ◌/◌, Bool, true, false, not, cond, ◌||◌, List, [], ◌∷◌, ◌++◌, length, take, drop, replicate, eqb, ltb, Result, Ok, Err}
 use Rattle.lists.specs.Lists.{pick}
 use Rattle.bits.specs.Bits.{bits_of, field_at}
 use Rattle.bits.specs.Rows.{pack, write_rows}
 use Rattle.outline.specs.Outline.{outline_of, same_sides_of, settled}
 use Rattle.sheet.specs.Sheet.{Sheet, counts_at, sheet_with, particle_w, triangle_w, edge_w, blade_w, end_of, too_many_of, above, names_ok}
 use Rattle.sheet.specs.declared.Counts.{Counts}
-use Rattle.sheet.specs.declared.Seen.{Seen as Typed}
-use Rattle.sheet.specs.declared.Seen.TheVariants.{Whole as TypedWhole, Refused as TypedRefused}
 use Rattle.edition.specs.declared.Seen.{Seen}
-use Rattle.edition.specs.declared.Seen.TheVariants.{Whole, Refused}
-use Rattle.model.specs.Refusals.{size_refusal}
+use Rattle.mesh.specs.declared.refusals.Refusal.{Refusal}
+use Rattle.mesh.specs.declared.refusals.Refusal.TheVariants.{Size, Name, Sheet as NoSheet}
 
 -- the widths of a second-edition header: eleven ones; particles, triangles, edges
 abbrev pub header2_w : List ℕ
@@ -79,25 +77,29 @@ overlong limits n = ltb 2048 n || ltb limits.boundary n
 abbrev pub spare_in : Counts → List ℕ → ℕ
 spare_in c s = field_at (bits_of s) (end_in (second (bits_of s)) c) (8 * bytes_in (second (bits_of s)) c - end_in (second (bits_of s)) c)
 
+-- the answer to a whole sheet
+abbrev pub whole_with : Counts → Bool → Result Seen Refusal
+whole_with c replaced = Ok (record { counts = c; replaced = replaced })
+
 -- what the bytes of a sheet of either edition with typed counts c are answered before its outline is looked at: counts 1; length and spare bits 9; names 3
-unfoldable pub typed_with : Counts → Counts → List ℕ → Typed
+unfoldable pub typed_with : Counts → Counts → List ℕ → Result Counts Refusal
 typed_with limits c s =
-    cond (too_many_of c || above limits c) (TypedRefused 1)
+    cond (too_many_of c || above limits c) (Err Size)
     (cond (eqb (length s) (bytes_in (second (bits_of s)) c))
-    (cond (eqb (spare_in c s) 0) (cond (names_ok (sheet_with c (bits_in_of (bits_of s)))) (TypedWhole c) (TypedRefused 3)) (TypedRefused 9))
-    (TypedRefused 9))
+    (cond (eqb (spare_in c s) 0) (cond (names_ok (sheet_with c (bits_in_of (bits_of s)))) (Ok c) (Err Name)) (Err NoSheet))
+    (Err NoSheet))
 
 -- the same from the start: a short header 9
-unfoldable pub typed_seen : Counts → List ℕ → Typed
-typed_seen limits s = cond (ltb (length s) 6) (TypedRefused 9) (typed_with limits (counts_at (bits_in_of (bits_of s))) s)
+unfoldable pub typed_seen : Counts → List ℕ → Result Counts Refusal
+typed_seen limits s = cond (ltb (length s) 6) (Err NoSheet) (typed_with limits (counts_at (bits_in_of (bits_of s))) s)
 
 -- what is answered then: 1 for an outline that is too long; else the counts, with the outline's for the boundary's, and whether it was replaced
-unfoldable pub seen_in : Counts → List ℕ → Typed → Seen
-seen_in limits s (TypedRefused n) = Refused n
-seen_in limits s (TypedWhole c) =
-    cond (overlong limits (length (sheet_of (bits_of s)).sheet.boundary)) (Refused size_refusal)
-    (Whole (record { particles = c.particles; triangles = c.triangles; edges = c.edges; boundary = length (sheet_of (bits_of s)).sheet.boundary }) (sheet_of (bits_of s)).replaced)
+unfoldable pub seen_in : Counts → List ℕ → Result Counts Refusal → Result Seen Refusal
+seen_in limits s (Err n) = Err n
+seen_in limits s (Ok c) =
+    cond (overlong limits (length (sheet_of (bits_of s)).sheet.boundary)) (Err Size)
+    (whole_with (record { particles = c.particles; triangles = c.triangles; edges = c.edges; boundary = length (sheet_of (bits_of s)).sheet.boundary }) (sheet_of (bits_of s)).replaced)
 
 -- what the bytes of a sheet of either edition are answered, where the caller's limits hold besides those of every mesh
-abbrev pub seen_of : Counts → List ℕ → Seen
+abbrev pub seen_of : Counts → List ℕ → Result Seen Refusal
 seen_of limits s = seen_in limits s (typed_seen limits s)

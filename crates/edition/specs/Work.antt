@@ -1,5 +1,5 @@
 -- What the workers ask and promise. Only the contracts between workers need this file. Definitions only.
-use Rattle.std.specs.Prelude.{ℕ, ◌+◌, ◌*◌, ◌/◌, ◌≤◌, ◌≡◌, true, false, List, length}
+use Rattle.std.specs.Prelude.{ℕ, ◌+◌, ◌*◌, ◌/◌, ◌≤◌, ◌≡◌, true, false, List, length, Result, Ok, Err}
 use Rattle.lists.specs.Lists.{pick}
 use Rattle.bits.specs.Bits.{bits_of}
 use Rattle.mesh.specs.Given.{Lent}
@@ -13,7 +13,7 @@ use Rattle.sheet.specs.Work.{Small, RowsIn}
 use Rattle.sheet.specs.declared.Counts.{Counts}
 use Rattle.edition.specs.Edition.{second, bits_in_of, typed_of, sheet_of, outline_in, replaced_in, bytes_in, spare_in, seen_of}
 use Rattle.edition.specs.declared.Seen.{Seen}
-use Rattle.edition.specs.declared.Seen.TheVariants.{Whole, Refused}
+use Rattle.mesh.specs.declared.refusals.Refusal.{Refusal}
 
 -- the bytes hold all bits of a second-edition sheet with these counts
 pub record Framed2 (s : List ℕ) (c : Counts) : Type 0 where
@@ -65,12 +65,12 @@ pub record OutlineFound (s o : List ℕ) (r : Settled) : Type 0 where
   pub told : r.replaced ≡ replaced_in (second (bits_of s)) (typed_of (bits_of s))
 
 -- where a sheet is whole, its outline stands at the front of a block
-abbrev pub Outlined : Seen → List ℕ → List ℕ → Type 0
-Outlined (Whole c replaced) s o = sides_at c.boundary o ≡ (sheet_of (bits_of s)).sheet.boundary
-Outlined (Refused n) s o = Unit {0}
+abbrev pub Outlined : Result Seen Refusal → List ℕ → List ℕ → Type 0
+Outlined (Ok k) s o = sides_at k.counts.boundary o ≡ (sheet_of (bits_of s)).sheet.boundary
+Outlined (Err n) s o = Unit {0}
 
 -- the answer to a sheet, and its outline
-pub record LookedAt (limits : Counts) (s o : List ℕ) (r : Seen) : Type 0 where
+pub record LookedAt (limits : Counts) (s o : List ℕ) (r : Result Seen Refusal) : Type 0 where
   pub answer : r ≡ seen_of limits s
   pub outlined : Outlined r s o
 

@@ -4,21 +4,22 @@
 ghost use Rattle.std.specs.Prelude.{◌≡◌};
 ghost use Rattle.edition.specs.Edition.{seen_of};
 
+use mesh::refusals::Refusal;
 use sheet::Counts;
 
 pub mod outlines;
 pub mod read;
 pub mod typed;
 
-// What a look at a sheet finds: its counts, the boundary's those of the outline that it is read with, and whether its typed outline was replaced.
+// What a whole sheet is: its counts, the boundary's those of the outline that it is read with, and whether its typed outline was replaced.
 #[derive(Clone, Copy)]
-pub enum Seen {
-    Whole(Counts, bool),
-    Refused(usize),
+pub struct Seen {
+    pub counts: Counts,
+    pub replaced: bool,
 }
 
-// What a sheet is: whole, with its counts, or refused with a number.
-pub fn look(s: &[u8], limits: Counts) -> Seen
+// What a sheet is: whole, with its counts, or why it is refused.
+pub fn look(s: &[u8], limits: Counts) -> Result<Seen, Refusal>
     ensures { result ≡ seen_of limits s.now }
 {
     let mut block = [0usize; 6144];

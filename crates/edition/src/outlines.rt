@@ -9,8 +9,9 @@ ghost use Rattle.edition.specs.Edition.{typed_of, own_of, overlong};
 ghost use Rattle.edition.specs.Work.{NamesIn, StartIn, FirstIn, BlockIn, OutlineFound, LookedAt};
 
 use crate::Seen;
+use mesh::refusals::Refusal;
 use outline_tables::Settled;
-use sheet::{Counts, Seen as Typed};
+use sheet::Counts;
 
 // Lists the outline of n triangles whose rows begin at bit `at`, and returns how many sides it has. Three columns are lent to read them into.
 fn triangle_sides(
@@ -110,25 +111,23 @@ fn too_long(limits: Counts, n: usize) -> bool
 }
 
 // What a sheet is; where it is whole, the outline that it is read with is put to the front of a block.
-pub fn look_into(s: &[u8], limits: Counts, block: &mut [usize]) -> Seen
+pub fn look_into(s: &[u8], limits: Counts, block: &mut [usize]) -> Result<Seen, Refusal>
     requires { 6144 ≤ length block.old }
     ensures { LookedAt limits s.now block.new result }
 {
-    let typed = crate::typed::look_typed(s, limits);
-    match typed {
-        Typed::Whole(c) => {
-            let found = find_outline(s, c, block);
-            if too_long(limits, found.count) {
-                return Seen::Refused(mesh::refusals::SIZE);
-            }
-            let d = Counts {
-                particles: c.particles,
-                triangles: c.triangles,
-                edges: c.edges,
-                boundary: found.count,
-            };
-            Seen::Whole(d, found.replaced)
-        }
-        Typed::Refused(n) => Seen::Refused(n),
+    let c = crate::typed::look_typed(s, limits)?;
+    let found = find_outline(s, c, block);
+    if too_long(limits, found.count) {
+        return Err(Refusal::Size);
     }
+    let d = Counts {
+        particles: c.particles,
+        triangles: c.triangles,
+        edges: c.edges,
+        boundary: found.count,
+    };
+    Ok(Seen {
+        counts: d,
+        replaced: found.replaced,
+    })
 }

@@ -11,6 +11,7 @@ ghost use Rattle.edition.specs.Work.{MeshIn, BladeAt, Held};
 ghost use Rattle.mesh.specs.Blocks.{mesh_behind, lent_before, blocks_in};
 
 use crate::Seen;
+use mesh::refusals::Refusal;
 use sheet::Counts;
 
 // Whether the lent blocks have room for a sheet with counts c, by their lengths.
@@ -25,7 +26,7 @@ fn room(
     ll: usize,
     lo: usize,
     lb: usize,
-) -> Seen
+) -> Result<Seen, Refusal>
     ensures { result ≡ room_for c replaced
         (record { points = lp; roots = lr; corners = lc; volumes = lv; ends = le; lengths = ll; outline = lo; log = 0 }) lb }
 {
@@ -34,17 +35,20 @@ fn room(
             if sheet_rows::two_fit(c.particles, lp / mesh::POINT_COLUMNS, lr / 2) {
                 if sheet_rows::two_fit(c.edges, le / 4, ll / 4) {
                     if c.boundary <= lo / 2 {
-                        return Seen::Whole(c, replaced);
+                        return Ok(Seen {
+                            counts: c,
+                            replaced,
+                        });
                     }
-                    return Seen::Refused(mesh::refusals::BOUNDARY);
+                    return Err(Refusal::Boundary);
                 }
-                return Seen::Refused(mesh::refusals::EDGES);
+                return Err(Refusal::Edges);
             }
-            return Seen::Refused(mesh::refusals::PARTICLES);
+            return Err(Refusal::Particles);
         }
-        return Seen::Refused(mesh::refusals::ARGUMENT);
+        return Err(Refusal::Argument);
     }
-    Seen::Refused(mesh::refusals::ARGUMENT)
+    Err(Refusal::Argument)
 }
 
 // Reads the lists of a whole sheet to the fronts of the blocks, and copies its outline from where it was found.
@@ -121,7 +125,7 @@ fn accept(
     );
 }
 
-// Reads a sheet into lent blocks: whole, with its counts and whether its typed outline was replaced, or refused with a number and 0 in every place.
+// Reads a sheet into lent blocks: whole, with its counts and whether its typed outline was replaced, or why it is refused and 0 in every place.
 pub fn read(
     s: &[u8],
     limits: Counts,
@@ -134,7 +138,7 @@ pub fn read(
     outline: &mut [usize],
     log: &mut [usize],
     blade: &mut [f32],
-) -> Seen
+) -> Result<Seen, Refusal>
     ensures { ReadDone limits s.now (lent_before points roots corners volumes ends lengths outline log) result
         points.new roots.new corners.new volumes.new ends.new lengths.new
         outline.new log.new blade.old blade.new }
@@ -142,10 +146,10 @@ pub fn read(
     let mut found = [0usize; 6144];
     let seen = crate::outlines::look_into(s, limits, &mut found);
     match seen {
-        Seen::Whole(c, replaced) => {
+        Ok(k) => {
             let lent = room(
-                c,
-                replaced,
+                k.counts,
+                k.replaced,
                 points.len(),
                 roots.len(),
                 corners.len(),
@@ -156,26 +160,26 @@ pub fn read(
                 blade.len(),
             );
             match lent {
-                Seen::Whole(d, told) => {
+                Ok(d) => {
                     accept(
-                        s, d, &found, points, roots, corners, volumes, ends, lengths, outline, log,
-                        blade,
+                        s, d.counts, &found, points, roots, corners, volumes, ends, lengths,
+                        outline, log, blade,
                     );
-                    Seen::Whole(d, told)
+                    Ok(d)
                 }
-                Seen::Refused(n) => {
+                Err(n) => {
                     sheet_rows::refuse(
                         points, roots, corners, volumes, ends, lengths, outline, log, blade,
                     );
-                    Seen::Refused(n)
+                    Err(n)
                 }
             }
         }
-        Seen::Refused(n) => {
+        Err(n) => {
             sheet_rows::refuse(
                 points, roots, corners, volumes, ends, lengths, outline, log, blade,
             );
-            Seen::Refused(n)
+            Err(n)
         }
     }
 }

@@ -6,7 +6,8 @@ ghost use Rattle.edition.specs.Edition.{second, bits_in_of, as_first_of, typed_w
 ghost use Rattle.sheet.specs.Work.{CountsRead};
 ghost use Rattle.edition.specs.Work.{Framed2, start_of};
 
-use sheet::{Counts, Seen};
+use mesh::refusals::Refusal;
+use sheet::Counts;
 
 // Whether a sheet is of the second edition.
 pub fn is_second(s: &[u8]) -> bool
@@ -63,36 +64,36 @@ fn names_second(s: &[u8], c: Counts) -> bool
     }
 }
 
-// What a second-edition sheet is, before its outline is looked at: whole, with its counts, or refused with a number.
-fn look_second(s: &[u8], limits: Counts) -> Seen
+// What a second-edition sheet is, before its outline is looked at: whole, with its counts, or why it is refused.
+fn look_second(s: &[u8], limits: Counts) -> Result<Counts, Refusal>
     requires { (6 ≤ length s.now) × (second (bits_of s.now) ≡ true) }
     ensures { result ≡ typed_seen limits s.now }
 {
     let c = counted_second(s);
     if sheet::refused_counts(limits, c) {
-        return Seen::Refused(mesh::refusals::SIZE);
+        return Err(Refusal::Size);
     }
     let end = sheet::end_bit(c) - 1;
     let bytes = (end + 7) / 8;
     if s.len() != bytes {
-        return Seen::Refused(mesh::refusals::SHEET);
+        return Err(Refusal::Sheet);
     }
     if bits::field(s, end, 8 * bytes - end) != 0 {
-        return Seen::Refused(mesh::refusals::SHEET);
+        return Err(Refusal::Sheet);
     }
     if names_second(s, c) {
-        Seen::Whole(c)
+        Ok(c)
     } else {
-        Seen::Refused(mesh::refusals::NAME)
+        Err(Refusal::Name)
     }
 }
 
 // What a sheet of either edition is, before its outline is looked at.
-pub fn look_typed(s: &[u8], limits: Counts) -> Seen
+pub fn look_typed(s: &[u8], limits: Counts) -> Result<Counts, Refusal>
     ensures { result ≡ typed_seen limits s.now }
 {
     if s.len() < 6 {
-        return Seen::Refused(mesh::refusals::SHEET);
+        return Err(Refusal::Sheet);
     }
     if is_second(s) {
         return look_second(s, limits);

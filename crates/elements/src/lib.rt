@@ -26,12 +26,10 @@ pub fn kind_of(t: usize, e: usize, ends: &[usize]) -> Kind
         return Kind::Triangles;
     }
     let c = ends.len() / mesh::END_COLUMNS;
-    let mut i: usize = 0;
-    while i < e {
+    for i in 0..e {
         if ends[2 * c + i] == 1 {
             return Kind::Straps;
         }
-        i += 1;
     }
     Kind::Nothing
 }
@@ -84,16 +82,14 @@ fn triangle_table(
         verts.new measures.new }
 {
     let c = corners.len() / mesh::CORNER_COLUMNS;
-    let mut i: usize = 0;
     let mut o: usize = 0;
-    while i < t {
+    for i in 0..t {
         numbers[i] = i;
         verts[o] = corners[i];
         verts[o + 1] = corners[c + i];
         verts[o + 2] = corners[2 * c + i];
         measures[i] = float::abs::abs(volumes[i]);
         o += 3;
-        i += 1;
     }
 }
 
@@ -113,10 +109,9 @@ fn strap_table(
 {
     let c = ends.len() / mesh::END_COLUMNS;
     let m = lengths.len() / mesh::LENGTH_COLUMNS;
-    let mut i: usize = 0;
     let mut n: usize = 0;
     let mut o: usize = 0;
-    while i < e {
+    for i in 0..e {
         if ends[2 * c + i] == 1 {
             numbers[n] = i;
             verts[o] = ends[i];
@@ -125,7 +120,6 @@ fn strap_table(
             o += 2;
             n += 1;
         }
-        i += 1;
     }
     n
 }
@@ -177,22 +171,20 @@ pub fn fan_table(
         fan_verts.new fan_measures.new }
     ensures upper_bound { result ≤ n }
 {
-    let mut i: usize = 0;
     let mut a: usize = 0;
     let mut r: usize = 0;
     let mut o: usize = 0;
-    while i < n {
+    for i in 0..n {
         let b = a + k;
         if fan::stands_in(v, &verts[a..b]) {
             let e = o + k;
-            columns::copy_usize(&verts[a..b], &mut fan_verts[o..e]);
+            columns::copy(&verts[a..b], &mut fan_verts[o..e]);
             fan_numbers[r] = numbers[i];
             fan_measures[r] = measures[i];
             o = e;
             r += 1;
         }
         a = b;
-        i += 1;
     }
     r
 }
@@ -203,10 +195,8 @@ pub fn sum_of(n: usize, measures: &[f32]) -> f32
     ensures { result ≡ sum (take n measures.now) }
 {
     let mut s: f32 = 0.0;
-    let mut i: usize = 0;
-    while i < n {
+    for i in 0..n {
         s = s + measures[i];
-        i += 1;
     }
     s
 }
@@ -216,12 +206,10 @@ fn mark_listed(listed: &[usize], marks: &mut [usize])
     requires { (j : ℕ) → j < length listed.now → get_or listed.now j 0 < length marks.old }
     ensures { Marked listed.now marks.new }
 {
-    columns::clear_usize(0, marks);
-    let mut i: usize = 0;
-    while i < listed.len() {
+    columns::clear(0, marks);
+    for i in 0..listed.len() {
         let w = listed[i];
         marks[w] = 1;
-        i += 1;
     }
 }
 
@@ -230,13 +218,11 @@ fn all_marked(row: &[usize], marks: &[usize]) -> bool
     requires { (j : ℕ) → j < length row.now → get_or row.now j 0 < length marks.now }
     ensures { result ≡ all (marked marks.now) row.now }
 {
-    let mut i: usize = 0;
-    while i < row.len() {
+    for i in 0..row.len() {
         let w = row[i];
         if marks[w] != 1 {
             return false;
         }
-        i += 1;
     }
     true
 }
@@ -247,15 +233,13 @@ fn measure_marked(n: usize, k: usize, verts: &[usize], measures: &[f32], marks: 
     ensures { MeasuredMarked k n verts.now measures.now marks.now result }
 {
     let mut s: f32 = 0.0;
-    let mut i: usize = 0;
     let mut a: usize = 0;
-    while i < n {
+    for i in 0..n {
         let b = a + k;
         if all_marked(&verts[a..b], marks) {
             s = s + measures[i];
         }
         a = b;
-        i += 1;
     }
     s
 }
@@ -301,15 +285,13 @@ pub fn holds_both(x: usize, y: usize, k: usize, n: usize, verts: &[usize]) -> bo
     requires { n * k ≤ length verts.now }
     ensures { HeldBoth x y k n verts.now result }
 {
-    let mut i: usize = 0;
     let mut a: usize = 0;
-    while i < n {
+    for i in 0..n {
         let b = a + k;
         if both_in(x, y, &verts[a..b]) {
             return true;
         }
         a = b;
-        i += 1;
     }
     false
 }

@@ -104,5 +104,5 @@ pub fn hit_by_signs(b0: Point, b1: Point, p: Point, q: Point) -> Hit
     }
     let dp = blade::offset(b0, b1, p);
     let t = blade::clamp(dp / (dp - blade::offset(b0, b1, q)));
-    Hit::Hit(t, blade::plus(p, blade::times(blade::minus(q, p), t)))
+    Hit::Hit(t, p + (q - p) * t)
 }

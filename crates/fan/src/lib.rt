@@ -9,14 +9,7 @@ ghost use Rattle.fan.specs.Fan.{fan, shared_others_of, near_test};
 pub fn stands_in(x: usize, b: &[usize]) -> bool
     ensures { result ≡ stands x b.now }
 {
-    let mut i = 0;
-    while i < b.len() {
-        if b[i] == x {
-            return true;
-        }
-        i += 1;
-    }
-    false
+    b.contains(&x)
 }
 
 // How many of a, other than v, stand in b.
@@ -24,15 +17,12 @@ pub fn shared_others(a: &[usize], b: &[usize], v: usize) -> usize
     ensures { result ≡ shared_others_of v a.now b.now }
 {
     let mut count: usize = 0;
-    let mut i = 0;
-    while i < a.len() {
-        let x = a[i];
+    for &x in a {
         if x != v {
             if stands_in(x, b) {
                 count += 1;
             }
         }
-        i += 1;
     }
     count
 }
@@ -65,9 +55,7 @@ pub fn near(
 pub fn own_numbers(table: &mut [usize])
     ensures { (a : ℕ) → a < length table.new → get_or table.new a 0 ≡ a }
 {
-    let mut i = 0;
-    while i < table.len() {
-        table[i] = i;
-        i += 1;
+    for (i, place) in table.iter_mut().enumerate() {
+        *place = i;
     }
 }

@@ -33,10 +33,15 @@ use Rattle.image_checks.proofs.Lists.{two_path, three_path}
 use Rattle.image_checks.proofs.Whole.{counted}
 use Rattle.replies.specs.Reply.{Replied}
 use Rattle.replies.proofs.Saying.{replied_as, refusal_small}
+use Rattle.std.specs.Prelude.{Result, Ok, Err}
+use Rattle.std.specs.Result.{IsErrAnd}
+use Rattle.std.proofs.lemmas.Result.{err_from_is_err_and}
+use Rattle.mesh.specs.Refused.{number_of, answer_in}
+use Rattle.mesh.specs.declared.refusals.Refusal.{Refusal}
+use Rattle.mesh.specs.declared.refusals.Refusal.TheVariants.{Argument}
+use Rattle.mesh.proofs.Refused.{refused_some}
 use Rattle.fan_c.specs.Fans.{fan_numbers, fan_call, fan_words, fan_reply}
 use Rattle.fan_c.specs.Work.{Listed, Answered, Tellable, found_words}
-use Rattle.fan_c.specs.declared.Found.{Found}
-use Rattle.fan_c.specs.declared.Found.TheVariants.{Refused, Elements}
 
 -- ---- the words
 
@@ -144,13 +149,17 @@ module _ (s : List ℕ) (v p t e r : ℕ) (numbers : List ℕ) (ep : p ≡ word_
 
 -- ---- the answer of a call
 
-refused_with : (ns : List ℕ) (code m : ℕ) (table : List ℕ) → code ≡ m → (code ≡ 0 → ⊥) → Answered (or_refused m ns) (Refused code) table
-refused_with ns code zero table e h = absurd (h e)
-refused_with ns code (suc m) table e h = record { answer = ap Refused e; front = refl; few = omega arith }
+refused_with : (ns : List ℕ) (f : Refusal) (m : ℕ) (table : List ℕ) → number_of f ≡ m → Answered (or_refused m ns) (Err f) table
+refused_with ns f zero table e = absurd (refused_some f e)
+refused_with ns f (suc m) table e = record { answer = ap refused e; front = refl; few = omega arith }
 
-found_with : (ns : List ℕ) (m r : ℕ) (table : List ℕ) → m ≡ 0 → r ≤ 2048 → take r table ≡ ns → r ≡ length ns → Answered (or_refused m ns) (Elements r) table
+-- the exit of a `?` answers with the refusal that it hands on
+pub handed : {o : Read (List ℕ)} (r : Result ℕ Refusal) (f : Refusal) (table : List ℕ) → IsErrAnd r (λ d. d ≡ f) → Answered o (Err f) table → Answered o r table
+handed {o} r f table h A = let p = err_from_is_err_and r h in subst (λ (x : Result ℕ Refusal). Answered o x table) (sym (p.1 ∙ ap Err p.2)) A
+
+found_with : (ns : List ℕ) (m r : ℕ) (table : List ℕ) → m ≡ 0 → r ≤ 2048 → take r table ≡ ns → r ≡ length ns → Answered (or_refused m ns) (Ok r) table
 found_with ns zero r table e few front count =
-    record { answer = ap Elements count; front = ap (λ (m : ℕ). take m table) (sym count) ∙ front; few = omega (arith, few, count) }
+    record { answer = ap value count; front = ap (λ (m : ℕ). take m table) (sym count) ∙ front; few = omega (arith, few, count) }
 found_with ns (suc m) r table e few front count = absurd (omega arith)
 
 module _ (s : List ℕ) (h : image_sized_of s ≡ true) (v : ℕ) (table : List ℕ) (code : ℕ) (judged : code ≡ fault_in (mesh_of (image_of s))) where
@@ -164,14 +173,14 @@ module _ (s : List ℕ) (h : image_sized_of s ≡ true) (v : ℕ) (table : List 
   particles = particles_count (image_of s) ∙ omega (arith, numbers_long s 4 (point_columns * (word_at_of s 0)))
 
   -- the refusal of the call
-  asked : (o : Found) → Answered (or_refused (refusal (sizes_fit_of (image_of s)) (mesh_of (image_of s)) true (present (mesh_of (image_of s)) v)) (fan_numbers (mesh_of (image_of s)) v)) o table
+  asked : (o : Result ℕ Refusal) → Answered (or_refused (refusal (sizes_fit_of (image_of s)) (mesh_of (image_of s)) true (present (mesh_of (image_of s)) v)) (fan_numbers (mesh_of (image_of s)) v)) o table
       → Answered (fan_call (image_sized_of s) (mesh_of (image_of s)) v) o table
   unfolding fan_call
   asked o A = subst (λ (b : Bool). Answered (fan_call b (mesh_of (image_of s)) v) o table) (sized_input s h) A
 
   -- a fault of the mesh
-  pub fan_fault : (code ≡ 0 → ⊥) → Answered (fan_call (image_sized_of s) (mesh_of (image_of s)) v) (Refused code) table
-  fan_fault n = asked _ (refused_with _ code _ table (undecided (image_of s) code (present (mesh_of (image_of s)) v) faults n) n)
+  pub fan_fault : (f : Refusal) → code ≡ number_of f → Answered (fan_call (image_sized_of s) (mesh_of (image_of s)) v) (Err f) table
+  fan_fault f e = asked _ (refused_with _ f _ table (sym e ∙ undecided (image_of s) code (present (mesh_of (image_of s)) v) faults (λ z. refused_some f (sym e ∙ z))))
 
   module _ (none : code ≡ 0) where
     -- where there is none, the particle decides
@@ -179,31 +188,52 @@ module _ (s : List ℕ) (h : image_sized_of s ≡ true) (v : ℕ) (table : List 
     decides t e = decided (image_of s) (present (mesh_of (image_of s)) v) (sym faults ∙ none) ∙ ap (λ (b : Bool). pick b 0 4) e
 
     -- an absent particle
-    pub fan_absent : (p : ℕ) → p ≡ word_at_of s 0 → p ≤ v → Answered (fan_call (image_sized_of s) (mesh_of (image_of s)) v) (Refused 4) table
+    pub fan_absent : (p : ℕ) → p ≡ word_at_of s 0 → p ≤ v → Answered (fan_call (image_sized_of s) (mesh_of (image_of s)) v) (Err Argument) table
     fan_absent p e l =
-        asked _ (refused_with _ 4 _ table (sym (decides false (le-ltb v (length (mesh_of (image_of s)).particles) (omega (arith, particles, e, l))))) (λ q. omega arith))
+        asked _ (refused_with _ Argument _ table (sym (decides false (le-ltb v (length (mesh_of (image_of s)).particles) (omega (arith, particles, e, l))))))
 
     -- the fan
-    pub fan_found : (p r : ℕ) → p ≡ word_at_of s 0 → v < p → Listed (image_of s) v r table → Answered (fan_call (image_sized_of s) (mesh_of (image_of s)) v) (Elements r) table
+    pub fan_found : (p r : ℕ) → p ≡ word_at_of s 0 → v < p → Listed (image_of s) v r table → Answered (fan_call (image_sized_of s) (mesh_of (image_of s)) v) (Ok r) table
     fan_found p r e l L =
         asked _ (found_with _ _ r table (decides true (lt-ltb v (length (mesh_of (image_of s)).particles) (omega (arith, particles, e, l)))) L.few L.front L.count)
 
 -- ---- the reply
 
 -- an answer is told by its words
-found_told : (o : Read (List ℕ)) (r : Found) (table : List ℕ) → Answered o r table → found_words r table ≡ fan_words o
-found_told (refused n) r table A = ap (λ (a : Found). found_words a table) A.answer
-found_told (value ns) r table A = ap (λ (a : Found). found_words a table) A.answer ∙ ap (λ (l : List ℕ). value (length ns ∷ l)) A.front
+words_told : Read ℕ → List ℕ → Read (List ℕ)
+words_told (refused n) table = refused n
+words_told (value n) table = value (n ∷ take n table)
 
-tellable_or : (m : ℕ) (ns : List ℕ) (r : Found) (table : List ℕ) (places : ℕ) → m < 256 → 2048 ≤ places → Answered (or_refused m ns) r table → Tellable r places
-tellable_or zero ns r table places h room A = subst (λ (a : Found). Tellable a places) (sym A.answer) (omega (arith, A.few), A.few)
-tellable_or (suc m) ns r table places h room A = subst (λ (a : Found). Tellable a places) (sym A.answer) h
+told_by : (r : Result ℕ Refusal) (table : List ℕ) → found_words r table ≡ words_told (answer_in r) table
+unfolding words_told
+told_by (Ok n) table = refl
+told_by (Err e) table = refl
 
-pub fan_tellable : (z : Bool) (M : Mesh) (v : ℕ) (r : Found) (table : List ℕ) (places : ℕ) → 2048 ≤ places → Answered (fan_call z M v) r table → Tellable r places
+found_told : (o : Read (List ℕ)) (r : Result ℕ Refusal) (table : List ℕ) → Answered o r table → found_words r table ≡ fan_words o
+unfolding words_told
+found_told (refused n) r table A = told_by r table ∙ ap (λ (a : Read ℕ). words_told a table) A.answer
+found_told (value ns) r table A = told_by r table ∙ ap (λ (a : Read ℕ). words_told a table) A.answer ∙ ap (λ (l : List ℕ). value (length ns ∷ l)) A.front
+
+-- what it says is small and in its place
+in_place : Read ℕ → ℕ → Type 0
+in_place (refused n) places = n < 256
+in_place (value n) places = (n ≤ places) × (n ≤ 2048)
+
+tellable_by : (r : Result ℕ Refusal) (places : ℕ) → in_place (answer_in r) places → Tellable r places
+unfolding in_place
+tellable_by (Ok n) places h = h
+tellable_by (Err e) places h = h
+
+tellable_or : (m : ℕ) (ns : List ℕ) (r : Result ℕ Refusal) (table : List ℕ) (places : ℕ) → m < 256 → 2048 ≤ places → Answered (or_refused m ns) r table → Tellable r places
+unfolding in_place
+tellable_or zero ns r table places h room A = tellable_by r places (subst (λ (a : Read ℕ). in_place a places) (sym A.answer) (omega (arith, A.few), A.few))
+tellable_or (suc m) ns r table places h room A = tellable_by r places (subst (λ (a : Read ℕ). in_place a places) (sym A.answer) h)
+
+pub fan_tellable : (z : Bool) (M : Mesh) (v : ℕ) (r : Result ℕ Refusal) (table : List ℕ) (places : ℕ) → 2048 ≤ places → Answered (fan_call z M v) r table → Tellable r places
 unfolding fan_call
 fan_tellable z M v r table places room A = tellable_or (refusal z M true (present M v)) _ r table places (refusal_small z M true (present M v)) room A
 
-pub fan_replied : (s : List ℕ) (v : ℕ) (a : Found) (table : List ℕ) (lent r : ℕ) (out : List ℕ) → Answered (fan_call (image_sized_of s) (mesh_of (image_of s)) v) a table
+pub fan_replied : (s : List ℕ) (v : ℕ) (a : Result ℕ Refusal) (table : List ℕ) (lent r : ℕ) (out : List ℕ) → Answered (fan_call (image_sized_of s) (mesh_of (image_of s)) v) a table
     → Replied (found_words a table) lent r out → Replied (fan_reply s v) lent r out
 unfolding fan_reply
 fan_replied s v a table lent r out A h = replied_as (found_words a table) _ lent r out (found_told _ a table A) h
@@ -213,11 +243,11 @@ unfolding fan_reply fan_call refusal
 fan_unsized s v lent r out z e f h = replied_as (refused 1) _ lent r out (ap (λ (b : Bool). fan_words (fan_call b (mesh_of (image_of s)) v)) (sym f ∙ e)) h
 
 -- a case under another name
-pub told_small : (a b : Found) (places : ℕ) → a ≡ b → Tellable a places → Tellable b places
-told_small a b places e h = subst (λ (o : Found). Tellable o places) e h
+pub told_small : (a b : Result ℕ Refusal) (places : ℕ) → a ≡ b → Tellable a places → Tellable b places
+told_small a b places e h = subst (λ (o : Result ℕ Refusal). Tellable o places) e h
 
-pub told_as : (a b : Found) (table : List ℕ) (lent r : ℕ) (out : List ℕ) → a ≡ b → Replied (found_words b table) lent r out → Replied (found_words a table) lent r out
-told_as a b table lent r out e h = subst (λ (o : Found). Replied (found_words o table) lent r out) (sym e) h
+pub told_as : (a b : Result ℕ Refusal) (table : List ℕ) (lent r : ℕ) (out : List ℕ) → a ≡ b → Replied (found_words b table) lent r out → Replied (found_words a table) lent r out
+told_as a b table lent r out e h = subst (λ (o : Result ℕ Refusal). Replied (found_words o table) lent r out) (sym e) h
 
 -- a front is no longer than it is asked to be
 pub front_few : (n : ℕ) (l : List ℕ) → n ≤ 2048 → length (take n l) ≤ 2049

@@ -10,14 +10,8 @@ ghost use Rattle.replies.specs.Reply.{Replied};
 ghost use Rattle.fan_c.specs.Fans.{fan_call, fan_reply};
 ghost use Rattle.fan_c.specs.Work.{Listed, Answered, Tellable, found_words};
 
+use mesh::refusals::Refusal;
 use mesh_tables::fans;
-
-// A refusal, or how many elements a fan has.
-#[derive(Clone, Copy)]
-pub enum Found {
-    Refused(usize),
-    Elements(usize),
-}
 
 // Writes the numbers of the triangles that hold v, whose corners stand from word `at` on. Returns how many they are.
 fn triangle_numbers(bytes: &[u8], at: usize, t: usize, v: usize, numbers: &mut [usize]) -> usize
@@ -28,8 +22,7 @@ fn triangle_numbers(bytes: &[u8], at: usize, t: usize, v: usize, numbers: &mut [
     let second = at + t;
     let third = second + t;
     let mut r: usize = 0;
-    let mut i: usize = 0;
-    while i < t {
+    for i in 0..t {
         let a = image::word_at(bytes, at + i);
         let b = image::word_at(bytes, second + i);
         let c = image::word_at(bytes, third + i);
@@ -37,7 +30,6 @@ fn triangle_numbers(bytes: &[u8], at: usize, t: usize, v: usize, numbers: &mut [
             numbers[r] = i;
             r += 1;
         }
-        i += 1;
     }
     r
 }
@@ -51,8 +43,7 @@ fn strap_numbers(bytes: &[u8], at: usize, e: usize, v: usize, numbers: &mut [usi
     let second = at + e;
     let third = second + e;
     let mut r: usize = 0;
-    let mut i: usize = 0;
-    while i < e {
+    for i in 0..e {
         let a = image::word_at(bytes, at + i);
         let b = image::word_at(bytes, second + i);
         let structural = image::word_at(bytes, third + i);
@@ -60,7 +51,6 @@ fn strap_numbers(bytes: &[u8], at: usize, e: usize, v: usize, numbers: &mut [usi
             numbers[r] = i;
             r += 1;
         }
-        i += 1;
     }
     r
 }
@@ -81,33 +71,30 @@ fn fan_numbers(bytes: &[u8], v: usize, numbers: &mut [usize]) -> usize
     strap_numbers(bytes, triangles + 5 * t, e, v, numbers)
 }
 
-// The fan of particle v of an image that has the sizes of a mesh: the faults of the mesh, 4 for an absent particle, or the numbers at the front of a table.
-fn image_fan(bytes: &[u8], v: usize, numbers: &mut [usize]) -> Found
+// The fan of particle v of an image that has the sizes of a mesh: the faults of the mesh, 4 for an absent particle, or the numbers at the front of a table. Returns how many they are.
+fn image_fan(bytes: &[u8], v: usize, numbers: &mut [usize]) -> Result<usize, Refusal>
     requires { (image_sized_of bytes.now ≡ true) × (2048 ≤ length numbers.old) }
     ensures { Answered (fan_call (image_sized_of bytes.now) (mesh_of (image_of bytes.now)) v) result
         numbers.new }
 {
-    let code = image_checks::image_fault(bytes);
-    if code != 0 {
-        return Found::Refused(code);
-    }
+    image_checks::image_fault(bytes)?;
     if v < image::word_at(bytes, 0) {
         let n = fan_numbers(bytes, v, numbers);
-        return Found::Elements(n);
+        return Ok(n);
     }
-    Found::Refused(mesh::refusals::ARGUMENT)
+    Err(Refusal::Argument)
 }
 
-// The reply to a case whose numbers are the first of a table.
-fn reply_found(a: Found, numbers: &[usize], out: &mut [u8]) -> u32
+// The reply to a count whose numbers are the first of a table.
+fn reply_found(a: Result<usize, Refusal>, numbers: &[usize], out: &mut [u8]) -> u32
     requires { Tellable a (length numbers.now) }
     ensures { Replied (found_words a numbers.now) (length out.old) result out.new }
 {
     match a {
-        Found::Refused(code) => {
-            return replies::reply_refused(code, out);
+        Err(e) => {
+            return replies::reply_refused(e.number(), out);
         }
-        Found::Elements(n) => {
+        Ok(n) => {
             return replies::reply_words(n, &numbers[..n], out);
         }
     }

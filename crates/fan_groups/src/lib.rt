@@ -17,8 +17,7 @@ fn number_side(sides: &[usize], side: usize, from: usize, table: &mut [usize]) -
 {
     let n = sides.len();
     let mut count = from;
-    let mut i = 0;
-    while i < n {
+    for i in 0..n {
         if sides[i] == side {
             let label = table[i] - n;
             if label == i {
@@ -29,7 +28,6 @@ fn number_side(sides: &[usize], side: usize, from: usize, table: &mut [usize]) -
                 table[i] = g;
             }
         }
-        i += 1;
     }
     count
 }
@@ -50,10 +48,8 @@ fn groups_by_side(sides: &[usize], groups: &mut [usize]) -> usize
     ensures { Sided sides.now groups.new result }
 {
     let low = groups_on(0, sides);
-    let mut i = 0;
-    while i < sides.len() {
+    for i in 0..sides.len() {
         groups[i] = sides[i] * low;
-        i += 1;
     }
     low + groups_on(1, sides)
 }

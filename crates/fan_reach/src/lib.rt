@@ -22,14 +22,12 @@ fn reach_below(
     ensures { Reaching (fan verts.now k v needed sides.now) label a table.old table.new
         (a + 1) }
 {
-    let mut j = label + 1;
-    while j < a {
+    for j in label + 1..a {
         if table[j] == j {
             if fan::near(verts, k, v, needed, sides, j, a) {
                 table[j] = label;
             }
         }
-        j += 1;
     }
 }
 
@@ -49,14 +47,12 @@ fn reach_above(
     ensures { Reaching (fan verts.now k v needed sides.now) label a table.old table.new
         (length sides.now) }
 {
-    let mut j = a + 1;
-    while j < sides.len() {
+    for j in a + 1..sides.len() {
         if table[j] == j {
             if fan::near(verts, k, v, needed, sides, a, j) {
                 table[j] = label;
             }
         }
-        j += 1;
     }
 }
 
@@ -106,22 +102,13 @@ fn reach_one(
     }
 }
 
-// The same number in more bits.
-fn wide(x: u16) -> usize
-    ensures { result ≡ x }
-{
-    x as usize
-}
-
 // Links the corners' places in chains, by the last six bits of their particles: heads[b] is the first place of chain b, nexts[p] the one behind p in its chain.
 // A number that is no place ends a chain. The last place is linked first, so that a chain rises.
 pub fn link_corners(verts: &[usize], heads: &mut [u16], nexts: &mut [u16])
     requires { LinkedFrom verts.now heads.old nexts.old (length verts.now) }
     ensures { LinkedFrom verts.now heads.new nexts.new 0 }
 {
-    let mut p = verts.len();
-    while 0 < p {
-        p -= 1;
+    for p in (0..verts.len()).rev() {
         let b = verts[p] % 64;
         nexts[p] = heads[b];
         heads[b] = p as u16;
@@ -147,12 +134,13 @@ fn reach_holders(
     ensures { Touching (fan verts.now k v needed sides.now) label a table.old table.new
         (Holds (fan verts.now k v needed sides.now) x (length verts.now)) }
 {
-    let mut p = wide(heads[x % 64]);
+    let mut p = usize::from(heads[x % 64]);
+    // A chain: each place tells the next, so there is no range to go over.
     while p < verts.len() {
         if verts[p] == x {
             reach_one(verts, k, v, needed, sides, label, a, p / k, table);
         }
-        p = wide(nexts[p]);
+        p = usize::from(nexts[p]);
     }
 }
 
@@ -174,14 +162,12 @@ fn reach_linked(
     ensures { Reaching (fan verts.now k v needed sides.now) label a table.old table.new
         (length sides.now) }
 {
-    let mut p = a * k;
-    let end = p + k;
-    while p < end {
+    let first = a * k;
+    for p in first..first + k {
         let x = verts[p];
         if x != v {
             reach_holders(verts, k, v, needed, sides, heads, nexts, label, a, x, table);
         }
-        p += 1;
     }
 }
 

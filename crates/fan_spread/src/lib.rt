@@ -32,14 +32,12 @@ fn next_reached(table: &[usize], label: usize) -> usize
     requires { label < length table.now }
     ensures { Next label table.now result }
 {
-    let mut a = label + 1;
-    while a < table.len() {
+    for a in label + 1..table.len() {
         if table[a] == label {
             return a;
         }
-        a += 1;
     }
-    a
+    table.len()
 }
 
 // Spreads the label of an untouched element, its own number, to all of its group.
@@ -60,6 +58,7 @@ fn spread_label(
     ensures { Settled (fan verts.now k v needed sides.now) (label + 1) table.new }
 {
     let mut a = label;
+    // The next that has the label stands anywhere behind, so no range steps by it.
     while a < sides.len() {
         spread_from(verts, k, v, needed, sides, heads, nexts, label, a, table);
         a = next_reached(table, label);
@@ -82,12 +81,10 @@ fn spread_all(
     ensures { Spread (fan verts.now k v needed sides.now) table.new }
 {
     fan::own_numbers(table);
-    let mut i = 0;
-    while i < sides.len() {
+    for i in 0..sides.len() {
         if table[i] == i {
             spread_label(verts, k, v, needed, sides, heads, nexts, i, table);
         }
-        i += 1;
     }
 }
 
@@ -107,7 +104,7 @@ fn spread_few(
     spread_all(verts, k, v, needed, sides, &none, &none, table);
 }
 
-// Spreads all labels along chains of corners.
+// Spreads all labels along chains of corners. (No twin of `spread_few`, which links none.)
 fn spread_many(
     verts: &[usize],
     k: usize,

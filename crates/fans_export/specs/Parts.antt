@@ -1,9 +1,9 @@
 -- How `fans_part` tells what a split came to. Definitions only.
-use Rattle.std.specs.Prelude.{ℕ, ◌≡◌, List, get_or}
+use Rattle.std.specs.Prelude.{ℕ, ◌≡◌, List, get_or, Ok, Err}
 use Rattle.mesh.specs.declared.Counts.{Counts}
 use Rattle.mesh.specs.declared.Rooms.{Rooms}
-use Rattle.work.specs.declared.Ran.{Ran}
-use Rattle.work.specs.declared.Ran.TheVariants.{Refused, Done}
+use Rattle.work.specs.Ran.{Ran}
+use Rattle.mesh.specs.Refused.{number_of}
 
 -- five numbers as counts, in their order
 abbrev pub five : ℕ → ℕ → ℕ → ℕ → ℕ → Counts
@@ -23,5 +23,5 @@ pub record CountsAre (q : Counts) (counts : List ℕ) : Type 0 where
 
 -- a number tells of a refusal which room lacks; otherwise it is 0, and the new counts are written
 unfoldable pub Tells : Ran → ℕ → List ℕ → Type 0
-Tells (Refused n) r counts = r ≡ n
-Tells (Done q) r counts = (r ≡ 0) × CountsAre q counts
+Tells (Err c) r counts = r ≡ number_of c
+Tells (Ok q) r counts = (r ≡ 0) × CountsAre q counts

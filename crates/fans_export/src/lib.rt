@@ -15,11 +15,11 @@ ghost use Rattle.edge_drops.specs.Parted.{Listing, listed, edges_parted, PartsIn
 ghost use Rattle.split.specs.Tables.{FanLent, FanTables};
 ghost use Rattle.split.specs.Blocks.{SidedIn, ListIn, LinkedParted};
 ghost use Rattle.model.specs.Split.{split_by_sides_of};
+ghost use Rattle.work.specs.Ran.{Ran};
 ghost use Rattle.fans_export.specs.Parts.{five, largest, Tells};
 
 use elements::Kind;
 use mesh::{Counts, Rooms};
-use work::Ran;
 
 // The tables of the first t triangles, e edges and b boundary entries, built anew.
 #[unsafe(no_mangle)]
@@ -100,10 +100,9 @@ pub extern "C" fn fans_scan(
     ensures { result ≤ t }
 {
     let c = corners.len() / 3;
-    let mut i: usize = 0;
     let mut r: usize = 0;
     let mut o: usize = 0;
-    while i < t {
+    for i in 0..t {
         let x = corners[i];
         let y = corners[c + i];
         let z = corners[2 * c + i];
@@ -116,7 +115,6 @@ pub extern "C" fn fans_scan(
             o += 3;
             r += 1;
         }
-        i += 1;
     }
     r
 }
@@ -197,8 +195,8 @@ pub extern "C" fn fans_part(
         links,
     );
     match ran {
-        Ran::Refused(lacking) => lacking,
-        Ran::Done(q) => {
+        Err(lacking) => lacking.number(),
+        Ok(q) => {
             counts[0] = q.particles;
             counts[1] = q.triangles;
             counts[2] = q.edges;

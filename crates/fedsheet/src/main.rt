@@ -52,13 +52,11 @@ fn feed_part(reader: &mut [u8], sheet: &[u8], at: usize, end: usize) {
 fn feed_all(reader: &mut [u8], sheet: &[u8], n: usize, first: usize, step: usize) {
     let mut at: usize = 0;
     let mut size = first;
-    let mut turns: usize = 0;
-    while turns < 100 {
+    for _ in 0..100 {
         let end = end_of(at, size, n);
         feed_part(reader, sheet, at, end);
         at = end;
         size = longer(size, step);
-        turns += 1;
     }
 }
 

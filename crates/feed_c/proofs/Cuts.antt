@@ -10,9 +10,11 @@ use Rattle.bits.specs.Bits.{bits_of}
 use Rattle.image.specs.Words.{written}
 use Rattle.sheet.specs.Sheet.{most}
 use Rattle.sheet.proofs.Cases.{worked, worked_counts}
-use Rattle.edition.specs.Edition.{sheet_of, seen_of}
+use Rattle.edition.specs.Edition.{sheet_of, seen_of, whole_with}
+use Rattle.std.specs.Prelude.{Result, Err}
+use Rattle.mesh.specs.declared.refusals.Refusal.{Refusal}
+use Rattle.mesh.specs.declared.refusals.Refusal.TheVariants.{Sheet}
 use Rattle.edition.specs.declared.Seen.{Seen}
-use Rattle.edition.specs.declared.Seen.TheVariants.{Whole, Refused}
 use Rattle.edition.proofs.Cases.{worked2, worked_seen, worked2_seen}
 use Rattle.replies.specs.Reply.{Replied}
 use Rattle.replies.proofs.Saying.{replied_as}
@@ -32,7 +34,7 @@ use Rattle.feed_c.proofs.Closes.{reply_open, reply_late}
 reply_alike : {s u : List ℕ} → Alike most s u → sheet_reply s ≡ sheet_reply u
 unfolding sheet_reply
 reply_alike (same e) = ap sheet_reply e
-reply_alike {s} {u} (both n e f) = ap (λ (x : Seen). sheet_told x s) e ∙ sym (ap (λ (x : Seen). sheet_told x u) f)
+reply_alike {s} {u} (both n e f) = ap (λ (x : Result Seen Refusal). sheet_told x s) e ∙ sym (ap (λ (x : Result Seen Refusal). sheet_told x u) f)
 
 -- what follows the first 17,293 bytes changes no byte of the reply
 pub long_reply : (s : List ℕ) → sheet_reply s ≡ sheet_reply (take F.most s)
@@ -107,23 +109,23 @@ close_agree b b' b'' lent r r' out out' A B = (A.reply.code ∙ sym B.reply.code
 
 -- ---- computed examples: the worked sheet, in either edition; its first 45 bytes, 9; nothing fed, 9
 
-told : (s : List ℕ) (x : Seen) → seen_of most s ≡ x → sheet_reply s ≡ sheet_told x s
+told : (s : List ℕ) (x : Result Seen Refusal) → seen_of most s ≡ x → sheet_reply s ≡ sheet_told x s
 unfolding sheet_reply
-told s x e = ap (λ (y : Seen). sheet_told y s) e
+told s x e = ap (λ (y : Result Seen Refusal). sheet_told y s) e
 
 module _ (parts : List (List ℕ)) (b₀ b₁ b₂ b₃ : List ℕ) (a lent r : ℕ) (out : List ℕ) (h : length b₀ ≡ size) (O : OpenDone b₀ a b₁) (F : Feeds b₁ parts b₂) (C : Closed b₂ b₃ lent r out) where
   -- the reply to bytes of which a look tells
-  told_as : (s : List ℕ) (x : Seen) → joined parts ≡ s → seen_of most s ≡ x → Replied (sheet_told x s) lent r out
+  told_as : (s : List ℕ) (x : Result Seen Refusal) → joined parts ≡ s → seen_of most s ≡ x → Replied (sheet_told x s) lent r out
   told_as s x j e = replied_as _ _ lent r out (ap sheet_reply j ∙ told s x e) (however_cut parts b₀ b₁ b₂ b₃ a lent r out h O F C)
 
   pub worked_closed : joined parts ≡ worked → Replied (value (sheet_words (sheet_of (bits_of worked)))) lent r out
-  worked_closed j = told_as worked (Whole worked_counts false) j worked_seen
+  worked_closed j = told_as worked (whole_with worked_counts false) j worked_seen
 
   pub worked2_closed : joined parts ≡ worked2 → Replied (value (sheet_words (sheet_of (bits_of worked2)))) lent r out
-  worked2_closed j = told_as worked2 (Whole worked_counts false) j worked2_seen
+  worked2_closed j = told_as worked2 (whole_with worked_counts false) j worked2_seen
 
   pub short_closed : joined parts ≡ take 45 worked → Replied (refused 9) lent r out
-  short_closed j = told_as (take 45 worked) (Refused 9) j short_seen
+  short_closed j = told_as (take 45 worked) (Err Sheet) j short_seen
 
   pub nothing_closed : joined parts ≡ joined [] → Replied (refused 9) lent r out
-  nothing_closed j = told_as (joined []) (Refused 9) j nothing_seen
+  nothing_closed j = told_as (joined []) (Err Sheet) j nothing_seen

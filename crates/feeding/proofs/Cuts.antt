@@ -12,6 +12,8 @@ use Rattle.mesh.specs.Given.{Lent}
 use Rattle.sheet.specs.declared.Counts.{Counts}
 use Rattle.edition.specs.Edition.{seen_of}
 use Rattle.edition.specs.Reading.{ReadDone}
+use Rattle.std.specs.Prelude.{Result}
+use Rattle.mesh.specs.declared.refusals.Refusal.{Refusal}
 use Rattle.edition.specs.declared.Seen.{Seen}
 use Rattle.edition.proofs.Agree.{read_agree}
 use Rattle.image.specs.Words.{word_at_of, put_word_of}
@@ -28,7 +30,7 @@ kept_seen limits s b K = ap (seen_of limits) K.places ∙ sym (long_read limits 
 
 -- the answer, and every lent place
 pub kept_read :
-    (limits : Counts) (s b : List ℕ) (L : Lent) (r : Seen) (p : List Float) (q c : List ℕ) (v : List Float) (e : List ℕ) (l : List Float) (o g : List ℕ) (d d' : List Float)
+    (limits : Counts) (s b : List ℕ) (L : Lent) (r : Result Seen Refusal) (p : List Float) (q c : List ℕ) (v : List Float) (e : List ℕ) (l : List Float) (o g : List ℕ) (d d' : List Float)
     → Keeps s b → ReadDone limits (kept_in b) L r p q c v e l o g d d' → ReadDone limits s L r p q c v e l o g d d'
 kept_read limits s b L r p q c v e l o g d d' K D =
     alike_read (alike_back (alike_front limits s most (omega arith))) (subst (λ (x : List ℕ). ReadDone limits x L r p q c v e l o g d d') K.places D)
@@ -122,7 +124,7 @@ fed_keeps parts b₀ b₁ b₂ a h O F = feeds_keep (subst (Keeps []) (sym O.rea
 
 -- however the bytes of a sheet are cut: opened and fed each part, a reader keeps bytes that are read as the parts joined, with the same answer and the same in every lent place
 pub however_cut :
-    (limits : Counts) (parts : List (List ℕ)) (b₀ b₁ b₂ : List ℕ) (a : ℕ) (L : Lent) (r : Seen) (p : List Float) (q c : List ℕ) (v : List Float) (e : List ℕ) (l : List Float) (o g : List ℕ) (d d' : List Float)
+    (limits : Counts) (parts : List (List ℕ)) (b₀ b₁ b₂ : List ℕ) (a : ℕ) (L : Lent) (r : Result Seen Refusal) (p : List Float) (q c : List ℕ) (v : List Float) (e : List ℕ) (l : List Float) (o g : List ℕ) (d d' : List Float)
     → length b₀ ≡ size → OpenDone b₀ a b₁ → Feeds b₁ parts b₂ → ReadDone limits (kept_in b₂) L r p q c v e l o g d d' → ReadDone limits (joined parts) L r p q c v e l o g d d'
 however_cut limits parts b₀ b₁ b₂ a L r p q c v e l o g d d' h O F D = kept_read limits (joined parts) b₂ L r p q c v e l o g d d' (fed_keeps parts b₀ b₁ b₂ a h O F) D
 
@@ -141,7 +143,7 @@ feeds_at_once b part (more F l) = feeds_from b part F.reader l
 
 -- any two ways of cutting the same bytes give the same answer and the same in every lent place
 pub cuts_agree :
-    (limits : Counts) (parts parts' : List (List ℕ)) (b₀ b₁ b₂ e₀ e₁ e₂ : List ℕ) (a a' : ℕ) (L : Lent) (r r' : Seen) (p p' : List Float) (q q' c c' : List ℕ) (v v' : List Float) (e e' : List ℕ) (l l' : List Float) (o o' g g' : List ℕ) (d f f' : List Float)
+    (limits : Counts) (parts parts' : List (List ℕ)) (b₀ b₁ b₂ e₀ e₁ e₂ : List ℕ) (a a' : ℕ) (L : Lent) (r r' : Result Seen Refusal) (p p' : List Float) (q q' c c' : List ℕ) (v v' : List Float) (e e' : List ℕ) (l l' : List Float) (o o' g g' : List ℕ) (d f f' : List Float)
     → joined parts ≡ joined parts'
     → length b₀ ≡ size → OpenDone b₀ a b₁ → Feeds b₁ parts b₂ → ReadDone limits (kept_in b₂) L r p q c v e l o g d f
     → length e₀ ≡ size → OpenDone e₀ a' e₁ → Feeds e₁ parts' e₂ → ReadDone limits (kept_in e₂) L r' p' q' c' v' e' l' o' g' d f'

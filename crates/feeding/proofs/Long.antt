@@ -19,13 +19,13 @@ use Rattle.bits.specs.Bits.{bits_of}
 use Rattle.bits.proofs.Laws.{below?}
 use Rattle.sheet.specs.Sheet.{sheet_with, above, too_many_of, counts_at, names_ok}
 use Rattle.sheet.specs.declared.Counts.{Counts}
-use Rattle.sheet.specs.declared.Seen.{Seen as Typed}
-use Rattle.sheet.specs.declared.Seen.TheVariants.{Whole as TypedWhole, Refused as TypedRefused}
+use Rattle.std.specs.Prelude.{Result, Ok, Err}
+use Rattle.mesh.specs.declared.refusals.Refusal.{Refusal}
+use Rattle.mesh.specs.declared.refusals.Refusal.TheVariants.{Size, Name, Sheet}
+use Rattle.edition.specs.declared.Seen.{Seen}
 use Rattle.sheet.proofs.PutLaws.{neither}
 use Rattle.edition.specs.Edition.{second, as_first_of, bits_in_of, bytes_in, spare_in, typed_with, typed_seen, seen_in, seen_of}
 use Rattle.edition.specs.Reading.{lent_of, world_of, blade_left, ReadDone}
-use Rattle.edition.specs.declared.Seen.{Seen}
-use Rattle.edition.specs.declared.Seen.TheVariants.{Refused}
 use Rattle.edition.proofs.Editions.{counts_second}
 use Rattle.feeding.specs.Feeding.{most}
 use Rattle.edition.proofs.Joins.{counts_join}
@@ -60,37 +60,37 @@ longest_second l h e =
     omega (arith, F.particles, F.triangles, F.edges, z)
 
 -- what too many bytes are answered, by their counts
-abbrev pub code : Bool → ℕ
-code t = cond t 1 9
+abbrev pub code : Bool → Refusal
+code t = cond t Size Sheet
 
-without : (t u : Bool) (x : Typed) → (t ≡ false → u ≡ false) → cond t (TypedRefused 1) (cond u x (TypedRefused 9)) ≡ TypedRefused (code t)
+without : (t u : Bool) (x : Result Counts Refusal) → (t ≡ false → u ≡ false) → cond t (Err Size) (cond u x (Err Sheet)) ≡ Err (code t)
 without true u x h = refl
-without false u x h = ap (λ (b : Bool). cond b x (TypedRefused 9)) (h refl)
+without false u x h = ap (λ (b : Bool). cond b x (Err Sheet)) (h refl)
 
-typed_long : (limits : Counts) (s : List ℕ) → 17293 ≤ length s → typed_seen limits s ≡ TypedRefused (code (too_many_of (counts_at (bits_in_of (bits_of s))) || above limits (counts_at (bits_in_of (bits_of s)))))
+typed_long : (limits : Counts) (s : List ℕ) → 17293 ≤ length s → typed_seen limits s ≡ Err (code (too_many_of (counts_at (bits_in_of (bits_of s))) || above limits (counts_at (bits_in_of (bits_of s)))))
 unfolding typed_seen typed_with
 typed_long limits s h =
     let c = counts_at (bits_in_of (bits_of s)) in
     let t = second (bits_of s) in
     rw (le-ltb (length s) 6 (omega arith))
-    (without (too_many_of c || above limits c) (eqb (length s) (bytes_in t c)) (cond (eqb (spare_in c s) 0) (cond (names_ok (sheet_with c (bits_in_of (bits_of s)))) (TypedWhole c) (TypedRefused 3)) (TypedRefused 9))
+    (without (too_many_of c || above limits c) (eqb (length s) (bytes_in t c)) (cond (eqb (spare_in c s) 0) (cond (names_ok (sheet_with c (bits_in_of (bits_of s)))) (Ok c) (Err Name)) (Err Sheet))
     (λ e. ne_eqb (length s) (bytes_in t c) (λ q. omega (arith, q, longest t c (neither (too_many_of c) (above limits c) e).0))))
 
-seen_long : (limits : Counts) (s : List ℕ) → 17293 ≤ length s → seen_of limits s ≡ Refused (code (too_many_of (counts_at (bits_in_of (bits_of s))) || above limits (counts_at (bits_in_of (bits_of s)))))
+seen_long : (limits : Counts) (s : List ℕ) → 17293 ≤ length s → seen_of limits s ≡ Err (code (too_many_of (counts_at (bits_in_of (bits_of s))) || above limits (counts_at (bits_in_of (bits_of s)))))
 unfolding seen_in
 seen_long limits s h = ap (seen_in limits s) (typed_long limits s h)
 
 -- the same, by the bytes that it begins with
 pub seen_full : (limits : Counts) (a b : List ℕ) → 6 ≤ length a → 17293 ≤ length a + length b
-    → seen_of limits (a ++ b) ≡ Refused (code (too_many_of (counts_at (bits_in_of (bits_of a))) || above limits (counts_at (bits_in_of (bits_of a)))))
+    → seen_of limits (a ++ b) ≡ Err (code (too_many_of (counts_at (bits_in_of (bits_of a))) || above limits (counts_at (bits_in_of (bits_of a)))))
 seen_full limits a b h f =
-    seen_long limits (a ++ b) (omega (arith, length-append a b)) ∙ ap (λ (c : Counts). Refused (code (too_many_of c || above limits c))) (counts_join a b h)
+    seen_long limits (a ++ b) (omega (arith, length-append a b)) ∙ ap (λ (c : Counts). Err (code (too_many_of c || above limits c))) (counts_join a b h)
 
--- ---- two runs of bytes that are read alike: they are the same, or refused by the same number
+-- ---- two runs of bytes that are read alike: they are the same, or refused alike
 
 pub data Alike (limits : Counts) (s u : List ℕ) : Type 0 where
   same : s ≡ u → Alike limits s u
-  both : (n : ℕ) → seen_of limits s ≡ Refused n → seen_of limits u ≡ Refused n → Alike limits s u
+  both : (n : Refusal) → seen_of limits s ≡ Err n → seen_of limits u ≡ Err n → Alike limits s u
 
 pub alike_back : {limits : Counts} {s u : List ℕ} → Alike limits s u → Alike limits u s
 alike_back (same e) = same (sym e)
@@ -105,7 +105,7 @@ alike_front limits s n h =
     let b = drop n s in
     let l : length a ≡ n = length-take-le n s (omega arith) in
     let e : counts_at (bits_in_of (bits_of s)) ≡ counts_at (bits_in_of (bits_of a)) = ap (λ (x : List ℕ). counts_at (bits_in_of (bits_of x))) (sym (take-append-drop n s)) ∙ counts_join a b (omega arith) in
-    both _ (seen_long limits s (omega arith) ∙ ap (λ (c : Counts). Refused (code (too_many_of c || above limits c))) e) (seen_long limits a (omega arith)))
+    both _ (seen_long limits s (omega arith) ∙ ap (λ (c : Counts). Err (code (too_many_of c || above limits c))) e) (seen_long limits a (omega arith)))
     (λ y. same (sym (take_all n s y)))
     (below? n (length s))
 
@@ -115,27 +115,27 @@ alike_seen {limits} (same e) = ap (seen_of limits) e
 alike_seen (both n e f) = e ∙ sym f
 
 -- what a refused reading leaves depends on no byte
-world_refused : (r : Seen) (n : ℕ) (l m : List ℕ) → r ≡ Refused n → world_of r l ≡ world_of r m
+world_refused : (r : Result Seen Refusal) (n : Refusal) (l m : List ℕ) → r ≡ Err n → world_of r l ≡ world_of r m
 unfolding world_of
-world_refused r n l m e = ap (λ (x : Seen). world_of x l) e ∙ sym (ap (λ (x : Seen). world_of x m) e)
+world_refused r n l m e = ap (λ (x : Result Seen Refusal). world_of x l) e ∙ sym (ap (λ (x : Result Seen Refusal). world_of x m) e)
 
-blade_refused : (r : Seen) (n : ℕ) (l m : List ℕ) → r ≡ Refused n → blade_left r l ≡ blade_left r m
+blade_refused : (r : Result Seen Refusal) (n : Refusal) (l m : List ℕ) → r ≡ Err n → blade_left r l ≡ blade_left r m
 unfolding blade_left
-blade_refused r n l m e = ap (λ (x : Seen). blade_left x l) e ∙ sym (ap (λ (x : Seen). blade_left x m) e)
+blade_refused r n l m e = ap (λ (x : Result Seen Refusal). blade_left x l) e ∙ sym (ap (λ (x : Result Seen Refusal). blade_left x m) e)
 
-lent_refused : (r x : Seen) (n : ℕ) (L : Lent) (k : ℕ) → r ≡ lent_of x L k → x ≡ Refused n → r ≡ Refused n
+lent_refused : (r x : Result Seen Refusal) (n : Refusal) (L : Lent) (k : ℕ) → r ≡ lent_of x L k → x ≡ Err n → r ≡ Err n
 unfolding lent_of
-lent_refused r x n L k e f = e ∙ ap (λ (y : Seen). lent_of y L k) f
+lent_refused r x n L k e f = e ∙ ap (λ (y : Result Seen Refusal). lent_of y L k) f
 
 -- and so is what a reading leaves
 pub alike_read :
-    {limits : Counts} {s u : List ℕ} {L : Lent} {r : Seen} {p : List Float} {q c : List ℕ} {v : List Float} {e : List ℕ} {l : List Float} {o g : List ℕ} {b b' : List Float}
+    {limits : Counts} {s u : List ℕ} {L : Lent} {r : Result Seen Refusal} {p : List Float} {q c : List ℕ} {v : List Float} {e : List ℕ} {l : List Float} {o g : List ℕ} {b b' : List Float}
     → Alike limits s u → ReadDone limits s L r p q c v e l o g b b' → ReadDone limits u L r p q c v e l o g b b'
 alike_read {limits} {s} {u} {L} {r} {p} {q} {c} {v} {e} {l} {o} {g} {b} {b'} (same z) D = subst (λ (x : List ℕ). ReadDone limits x L r p q c v e l o g b b') z D
 alike_read {limits} {s} {u} {L} {r} {p} {q} {c} {v} {e} {l} {o} {g} {b} {b'} (both n f h) D =
     let z = lent_refused r (seen_of limits s) n L (length b) D.answer f in
     record {
-      answer = D.answer ∙ ap (λ (x : Seen). lent_of x L (length b)) (f ∙ sym h);
+      answer = D.answer ∙ ap (λ (x : Result Seen Refusal). lent_of x L (length b)) (f ∙ sym h);
       blocks = subst (λ (W : World). Filled W L p q c v e l o g) (world_refused r n (bits_of s) (bits_of u) z) D.blocks;
       blade = D.blade ∙ ap (padded (length b) zero32) (blade_refused r n (bits_of s) (bits_of u) z);
     }
@@ -147,6 +147,6 @@ long_read limits s = alike_seen (alike_front limits s most (omega arith))
 
 -- the same of what is left in the lent places
 pub long_left :
-    (limits : Counts) (s : List ℕ) {L : Lent} {r : Seen} {p : List Float} {q c : List ℕ} {v : List Float} {e : List ℕ} {l : List Float} {o g : List ℕ} {b b' : List Float}
+    (limits : Counts) (s : List ℕ) {L : Lent} {r : Result Seen Refusal} {p : List Float} {q c : List ℕ} {v : List Float} {e : List ℕ} {l : List Float} {o g : List ℕ} {b b' : List Float}
     → ReadDone limits (take most s) L r p q c v e l o g b b' → ReadDone limits s L r p q c v e l o g b b'
 long_left limits s D = alike_read (alike_back (alike_front limits s most (omega arith))) D

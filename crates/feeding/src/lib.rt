@@ -51,11 +51,7 @@ fn copy_bytes(src: &[u8], dst: &mut [u8])
     requires { length src.now ≡ length dst.old }
     ensures { dst.new ≡ src.now }
 {
-    let mut i: usize = 0;
-    while i < src.len() {
-        dst[i] = src[i];
-        i += 1;
-    }
+    dst.copy_from_slice(src);
 }
 
 // Puts as much of a part as fits behind the bytes that a reader keeps.

@@ -12,7 +12,7 @@ use lib.Ieee.Digits.{size-lt, size-le}
 use lib.Ieee.Fits.{round-fits, down_pos}
 use lib.Ieee.Exact.{HasValue, round_exact}
 use lib.Ieee.Bits.{is_false}
-use Rattle.float.specs.declared.root.Rooted.{Rooted}
+use Rattle.std.specs.Prelude.{Option}
 use Rattle.float.specs.Root.{RootOfUnits, RootAt, RootOf, in_units, floor_root, nearest_root, place_of, root_units, root_at, root_of, root_refusal}
 use Rattle.float.specs.Ranges.{finite?, not_below0?}
 use Rattle.float.proofs.Squares.{Closest, stays, moves}
@@ -188,7 +188,7 @@ root_total (fin s m e) h =
     by_value x u.sign (u.q * 2 ^ u.j) u.value (λ p. scaled u.q u.j (factor_pos u.q u.j p) u.small u.place)
 
 -- and the only one
-pub root_is : (x : Float) (a : Rooted) → T (fits binary32 x) → RootOf x a → a ≡ root_of x
+pub root_is : (x : Float) (a : Option Float) → T (fits binary32 x) → RootOf x a → a ≡ root_of x
 root_is x a h r = root_unique x a (root_of x) r (root_total x h)
 
 -- ---- which numbers have a root

@@ -14,8 +14,7 @@ use lib.Ieee.Compare.{differs_from_itself, nan_differs}
 use lib.Ieee.Fits.{down_pos}
 use lib.Ieee.Exact.{HasValue, odd_sign}
 use lib.Ieee.Bits.{is_true, is_false, cond_no, of_bits-fits, of_bits-to_bits, nan_bits_above}
-use Rattle.float.specs.declared.root.Rooted.{Rooted}
-use Rattle.float.specs.declared.root.Rooted.TheVariants.{Value, Refused}
+use Rattle.std.specs.Prelude.{Option, None, Some}
 use Rattle.float.specs.Root.{RootBits, RootOfUnits, RootAt, RootOf}
 
 pub lt_or_ge : (a b : ℕ) → (a < b) ⊎ (b ≤ a)
@@ -79,86 +78,86 @@ no_nan_pattern n b h =
     subst (λ (z : Bool). T (not z)) (sym (nan_bits_above binary32 b)) (le→nltb (255 * 2 ^ 23) (b % 2 ^ 31) (omega arith))
 
 -- ---- what is asked of the answer, for an x of the sign s and of n units
-pub sized : (x : Float) (s : Bool) (n : ℕ) (a : Rooted) → HasValue x s n (2 ^ 149) → RootAt s n x a → RootOf x a
+pub sized : (x : Float) (s : Bool) (n : ℕ) (a : Option Float) → HasValue x s n (2 ^ 149) → RootAt s n x a → RootOf x a
 sized nan s n a v h = absurd v
 sized (inf t) s n a v h = absurd v
 sized (fin t m e) s n a v h =
     subst (λ (z : ℕ). RootAt t z (fin t m e) a) (sym (ap (λ (z : ℕ). z / down e) v.1 ∙ mul-div_cancel n (down_pos e)))
     (subst (λ (z : Bool). RootAt z n (fin t m e) a) (sym v.0) h)
 
-refused : (n : ℕ) (x : Float) → 0 < n → RootAt true n x Refused
+refused : (n : ℕ) (x : Float) → 0 < n → RootAt true n x None
 refused zero x h = absurd (lt_irrefl 0 h)
 refused (suc n) x h = refl
 
-answered : (n : ℕ) (x r : Float) → 0 < n → RootOfUnits n r → RootAt false n x (Value r)
+answered : (n : ℕ) (x r : Float) → 0 < n → RootOfUnits n r → RootAt false n x (Some r)
 answered zero x r h u = absurd (lt_irrefl 0 h)
 answered (suc n) x r h u = (r, refl, u)
 
-pub below_zero : (q k : ℕ) → 0 < q → RootOf (odd 24 true q k 149) Refused
-below_zero q k h = sized (odd 24 true q k 149) true (q * 2 ^ k) Refused (odd_sign 24 true q k 149) (refused (q * 2 ^ k) (odd 24 true q k 149) (mul-pos h (pow_pos k)))
+pub below_zero : (q k : ℕ) → 0 < q → RootOf (odd 24 true q k 149) None
+below_zero q k h = sized (odd 24 true q k 149) true (q * 2 ^ k) None (odd_sign 24 true q k 149) (refused (q * 2 ^ k) (odd 24 true q k 149) (mul-pos h (pow_pos k)))
 
-pub above_zero : (q k : ℕ) (r : Float) → 0 < q → RootOfUnits (q * 2 ^ k) r → RootOf (odd 24 false q k 149) (Value r)
-above_zero q k r h u = sized (odd 24 false q k 149) false (q * 2 ^ k) (Value r) (odd_sign 24 false q k 149) (answered (q * 2 ^ k) (odd 24 false q k 149) r (mul-pos h (pow_pos k)) u)
+pub above_zero : (q k : ℕ) (r : Float) → 0 < q → RootOfUnits (q * 2 ^ k) r → RootOf (odd 24 false q k 149) (Some r)
+above_zero q k r h u = sized (odd 24 false q k 149) false (q * 2 ^ k) (Some r) (odd_sign 24 false q k 149) (answered (q * 2 ^ k) (odd 24 false q k 149) r (mul-pos h (pow_pos k)) u)
 
 -- ---- the four cases of a pattern b that is no NaN's
 zero_is : (s : Bool) → of_fields binary32 s 0 0 ≡ fin s 0 (pos 0)
 unfolding of_fields
 zero_is s = refl
 
-pub at_zero : (b : ℕ) → b % 2 ^ 31 ≡ 0 → RootOf (of_bits binary32 b) (Value (of_bits binary32 b))
+pub at_zero : (b : ℕ) → b % 2 ^ 31 ≡ 0 → RootOf (of_bits binary32 b) (Some (of_bits binary32 b))
 at_zero b h =
     let s = leb (2 ^ 31) b in
     let f : b % 2 ^ 31 / 2 ^ 23 ≡ 0 = omega arith in
     let d : b % 2 ^ 23 ≡ 0 = omega arith in
-    subst (λ (z : Float). RootOf z (Value z)) (sym (read b s 0 0 refl f d ∙ zero_is s)) refl
+    subst (λ (z : Float). RootOf z (Some z)) (sym (read b s 0 0 refl f d ∙ zero_is s)) refl
 
-topmost : (s : Bool) (t : ℕ) → RootOf (of_fields binary32 s 255 t) Refused
+topmost : (s : Bool) (t : ℕ) → RootOf (of_fields binary32 s 255 t) None
 unfolding of_fields
 topmost s t = go (eqb t 0)
   where
-    go : (z : Bool) → RootOf (cond z (inf s) nan) Refused
+    go : (z : Bool) → RootOf (cond z (inf s) nan) None
     go true = refl
     go false = refl
 
-negatives : (f t : ℕ) → f ≤ 255 → (f ≡ 0 → 0 < t) → RootOf (of_fields binary32 true f t) Refused
-negatives zero t h n = subst (λ (z : Float). RootOf z Refused) (sym (subnormal true t)) (below_zero t 0 (n refl))
+negatives : (f t : ℕ) → f ≤ 255 → (f ≡ 0 → 0 < t) → RootOf (of_fields binary32 true f t) None
+negatives zero t h n = subst (λ (z : Float). RootOf z None) (sym (subnormal true t)) (below_zero t 0 (n refl))
 negatives (suc x) t h n = go (eq-or-lt_of_le h)
   where
-    go : (suc x ≡ 255) ⊎ (suc x < 255) → RootOf (of_fields binary32 true (suc x) t) Refused
-    go (inl e) = subst (λ (z : ℕ). RootOf (of_fields binary32 true z t) Refused) (sym e) (topmost true t)
-    go (inr l) = subst (λ (z : Float). RootOf z Refused) (sym (normal true x t (omega arith))) (below_zero (2 ^ 23 + t) x (omega arith))
+    go : (suc x ≡ 255) ⊎ (suc x < 255) → RootOf (of_fields binary32 true (suc x) t) None
+    go (inl e) = subst (λ (z : ℕ). RootOf (of_fields binary32 true z t) None) (sym e) (topmost true t)
+    go (inr l) = subst (λ (z : Float). RootOf z None) (sym (normal true x t (omega arith))) (below_zero (2 ^ 23 + t) x (omega arith))
 
-pub at_infinity : (b : ℕ) → b < 2 ^ 32 → (b % 2 ^ 31 ≡ 0 → ⊥) → 255 * 2 ^ 23 ≤ b → RootOf (of_bits binary32 b) Refused
+pub at_infinity : (b : ℕ) → b < 2 ^ 32 → (b % 2 ^ 31 ≡ 0 → ⊥) → 255 * 2 ^ 23 ≤ b → RootOf (of_bits binary32 b) None
 at_infinity b w n h = elim (lt_or_ge b (2 ^ 31)) [
   | inl l ↦
       let f : b % 2 ^ 31 / 2 ^ 23 ≡ 255 = omega arith in
-      subst (λ (z : Float). RootOf z Refused) (sym (read b false 255 (b % 2 ^ 23) (positive b l) f refl)) (topmost false (b % 2 ^ 23))
+      subst (λ (z : Float). RootOf z None) (sym (read b false 255 (b % 2 ^ 23) (positive b l) f refl)) (topmost false (b % 2 ^ 23))
   | inr g ↦
       let f = b % 2 ^ 31 / 2 ^ 23 in
       let t = b % 2 ^ 23 in
-      subst (λ (z : Float). RootOf z Refused) (sym (read b true f t (negative b g) refl refl))
+      subst (λ (z : Float). RootOf z None) (sym (read b true f t (negative b g) refl refl))
       (negatives f t (omega arith) (λ e. omega arith))
 ]
 
-pub at_subnormal : (b r : ℕ) → (b % 2 ^ 31 ≡ 0 → ⊥) → b < 255 * 2 ^ 23 → b / 2 ^ 23 ≡ 0 → RootBits (b % 2 ^ 23 * 2 ^ 0) r → RootOf (of_bits binary32 b) (Value (of_bits binary32 r))
+pub at_subnormal : (b r : ℕ) → (b % 2 ^ 31 ≡ 0 → ⊥) → b < 255 * 2 ^ 23 → b / 2 ^ 23 ≡ 0 → RootBits (b % 2 ^ 23 * 2 ^ 0) r → RootOf (of_bits binary32 b) (Some (of_bits binary32 r))
 at_subnormal b r n l z h =
     let t = b % 2 ^ 23 in
     let f : b % 2 ^ 31 / 2 ^ 23 ≡ 0 = omega arith in
-    subst (λ (y : Float). RootOf y (Value (of_bits binary32 r))) (sym (read b false 0 t (positive b (omega arith)) f refl ∙ subnormal false t))
+    subst (λ (y : Float). RootOf y (Some (of_bits binary32 r))) (sym (read b false 0 t (positive b (omega arith)) f refl ∙ subnormal false t))
     (above_zero t 0 (of_bits binary32 r) (omega arith) (of_bits_lem (t * 2 ^ 0) r h))
 
-pub at_normal : (b r : ℕ) → b < 255 * 2 ^ 23 → (b / 2 ^ 23 ≡ 0 → ⊥) → RootBits ((b % 2 ^ 23 + 2 ^ 23) * 2 ^ (b / 2 ^ 23 - 1)) r → RootOf (of_bits binary32 b) (Value (of_bits binary32 r))
+pub at_normal : (b r : ℕ) → b < 255 * 2 ^ 23 → (b / 2 ^ 23 ≡ 0 → ⊥) → RootBits ((b % 2 ^ 23 + 2 ^ 23) * 2 ^ (b / 2 ^ 23 - 1)) r → RootOf (of_bits binary32 b) (Some (of_bits binary32 r))
 at_normal b r l z h =
     let t = b % 2 ^ 23 in
     let x = b / 2 ^ 23 - 1 in
     let f : b % 2 ^ 31 / 2 ^ 23 ≡ suc x = omega arith in
     let m : t + 2 ^ 23 ≡ 2 ^ 23 + t = omega arith in
-    subst (λ (y : Float). RootOf y (Value (of_bits binary32 r))) (sym (read b false (suc x) t (positive b (omega arith)) f refl ∙ normal false x t (omega arith)))
+    subst (λ (y : Float). RootOf y (Some (of_bits binary32 r))) (sym (read b false (suc x) t (positive b (omega arith)) f refl ∙ normal false x t (omega arith)))
     (above_zero (2 ^ 23 + t) x (of_bits binary32 r) (omega arith) (of_bits_lem ((2 ^ 23 + t) * 2 ^ x) r (subst (λ (y : ℕ). RootBits (y * 2 ^ x) r) m h)))
 
 -- ---- x itself
-pub is_a_nan : (x : Float) → ne x x ≡ true → RootOf x Refused
-is_a_nan x h = subst (λ (z : Float). RootOf z Refused) (sym (differs_from_itself x (subst T (sym h) tt))) refl
+pub is_a_nan : (x : Float) → ne x x ≡ true → RootOf x None
+is_a_nan x h = subst (λ (z : Float). RootOf z None) (sym (differs_from_itself x (subst T (sym h) tt))) refl
 
 pub is_no_nan : (x : Float) → ne x x ≡ false → T (not (is_nan x))
 unfolding is_nan

@@ -7,8 +7,7 @@ use native.Mathlib.Omega.{arith}
 use lib.Pow.{pow_pos}
 use lib.Ieee.{Float, nan, inf, fin, binary32}
 use lib.Ieee.Exact.{HasValue}
-use Rattle.float.specs.declared.root.Rooted.{Rooted}
-use Rattle.float.specs.declared.root.Rooted.TheVariants.{Value}
+use Rattle.std.specs.Prelude.{Option, Some}
 use Rattle.float.specs.Root.{Nearest, RootOfUnits, RootAt, RootOf, in_units}
 use Rattle.float.proofs.Squares.{sq_lt, sq_mono}
 use Rattle.float.proofs.Values.{same_value}
@@ -48,13 +47,13 @@ units_unique n x y a b =
     same_value binary32 x y false (a.q * 2 ^ a.k) (2 ^ 149) (pow_pos 149) a.held b.held a.size
     (subst (λ (z : ℕ). HasValue y false z (2 ^ 149)) (sym (ap (λ (z : ℕ). z * 2 ^ a.k) u.0 ∙ ap (λ (z : ℕ). b.q * 2 ^ z) u.1)) b.size)
 
-at_unique : (s : Bool) (n : ℕ) (x : Float) (a b : Rooted) → RootAt s n x a → RootAt s n x b → a ≡ b
+at_unique : (s : Bool) (n : ℕ) (x : Float) (a b : Option Float) → RootAt s n x a → RootAt s n x b → a ≡ b
 at_unique true zero x a b p q = p ∙ sym q
 at_unique false zero x a b p q = p ∙ sym q
 at_unique true (suc n) x a b p q = p ∙ sym q
-at_unique false (suc n) x a b p q = p.1 ∙ ap Value (units_unique (suc n) p.0 q.0 p.2 q.2) ∙ sym q.1
+at_unique false (suc n) x a b p q = p.1 ∙ ap Some (units_unique (suc n) p.0 q.0 p.2 q.2) ∙ sym q.1
 
-pub root_unique : (x : Float) (a b : Rooted) → RootOf x a → RootOf x b → a ≡ b
+pub root_unique : (x : Float) (a b : Option Float) → RootOf x a → RootOf x b → a ≡ b
 root_unique nan a b p q = p ∙ sym q
 root_unique (inf s) a b p q = p ∙ sym q
 root_unique (fin s m e) a b p q = at_unique s (in_units m e) (fin s m e) a b p q

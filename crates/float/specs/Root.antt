@@ -1,12 +1,10 @@
 -- The square root of an f32, correctly rounded, said with whole numbers alone.
 -- A unit is 2 ^ -149, the smallest f32 above zero. Every finite f32 is a whole number of units, and 24 binary digits are all that it keeps:
 -- q * 2 ^ k units, with q below 2 ^ 24. Definitions only.
-use Rattle.std.specs.Prelude.{ℕ, zero, suc, ◌+◌, ◌-◌, ◌*◌, ◌/◌, ◌^◌, ◌≤◌, ◌<◌, ◌≡◌, Bool, true, false, cond, ℤ, T, leb, ltb, Float}
+use Rattle.std.specs.Prelude.{ℕ, zero, suc, ◌+◌, ◌-◌, ◌*◌, ◌/◌, ◌^◌, ◌≤◌, ◌<◌, ◌≡◌, Bool, true, false, cond, ℤ, T, leb, ltb, Float, Option, None, Some}
 use Rattle.std.specs.Float.{nan, inf, fin, binary32}
 use Rattle.std.specs.Float.Ieee.{up, down, fits, round, size as bits}
 use Rattle.std.specs.Float.Ieee.Exact.{HasValue}
-use Rattle.float.specs.declared.root.Rooted.{Rooted}
-use Rattle.float.specs.declared.root.Rooted.TheVariants.{Value, Refused}
 
 -- q * 2 ^ k units is the root of n units, rounded to the nearest number of 24 digits.
 -- The root of n units is √(n * 2 ^ 149) units, as (2 ^ -149) ^ 2 is 2 ^ -149 units. So, each side squared and times 4:
@@ -40,15 +38,15 @@ abbrev pub in_units : ℕ → ℤ → ℕ
 in_units m e = m * up e * 2 ^ 149 / down e
 
 -- what `root` answers for x, whose sign is s (true: below zero) and whose size is n units
-abbrev pub RootAt : Bool → ℕ → Float → Rooted → Type 0
-RootAt s zero x a = a ≡ Value x
-RootAt true (suc n) x a = a ≡ Refused
-RootAt false (suc n) x a = (r : Float) × (a ≡ Value r) × RootOfUnits (suc n) r
+abbrev pub RootAt : Bool → ℕ → Float → Option Float → Type 0
+RootAt s zero x a = a ≡ Some x
+RootAt true (suc n) x a = a ≡ None
+RootAt false (suc n) x a = (r : Float) × (a ≡ Some r) × RootOfUnits (suc n) r
 
 -- The answer a for x: a NaN, an infinity and a number below zero are refused, and either zero is its own root.
-abbrev pub RootOf : Float → Rooted → Type 0
-RootOf nan a = a ≡ Refused
-RootOf (inf s) a = a ≡ Refused
+abbrev pub RootOf : Float → Option Float → Type 0
+RootOf nan a = a ≡ None
+RootOf (inf s) a = a ≡ None
 RootOf (fin s m e) a = RootAt s (in_units m e) (fin s m e) a
 
 -- ---- the same as a function, which antt computes. That it is the root above is proved in `proofs/Computed.antt`
@@ -73,17 +71,17 @@ root_units n =
     let N = n * 2 ^ 149 / 4 ^ k in
     round binary32 false (nearest_root N (floor_root 24 N) * 2 ^ k) (2 ^ 149)
 
-abbrev pub root_at : Bool → ℕ → Float → Rooted
-root_at s zero x = Value x
-root_at true (suc n) x = Refused
-root_at false (suc n) x = Value (root_units (suc n))
+abbrev pub root_at : Bool → ℕ → Float → Option Float
+root_at s zero x = Some x
+root_at true (suc n) x = None
+root_at false (suc n) x = Some (root_units (suc n))
 
-abbrev pub root_of : Float → Rooted
-root_of nan = Refused
-root_of (inf s) = Refused
+abbrev pub root_of : Float → Option Float
+root_of nan = None
+root_of (inf s) = None
 root_of (fin s m e) = root_at s (in_units m e) (fin s m e)
 
 -- the refusal number of an answer (docs/RULES.md, R3.10): 0 for a root, 4 where there is none
-abbrev pub root_refusal : Rooted → ℕ
-root_refusal (Value r) = 0
-root_refusal Refused = 4
+abbrev pub root_refusal : Option Float → ℕ
+root_refusal (Some r) = 0
+root_refusal None = 4

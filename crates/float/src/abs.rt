@@ -6,8 +6,5 @@ ghost use Rattle.float.specs.Numbers.{abs_of};
 pub fn abs(x: f32) -> f32
     ensures { result ≡ abs_of x }
 {
-    if x == 0.0 {
-        return 0.0;
-    }
-    if x < 0.0 { -x } else { x }
+    x.abs()
 }

@@ -2,12 +2,6 @@
 ghost use Rattle.std.specs.Prelude.{◌≡◌, ℕ, ◌+◌, ◌-◌, ◌*◌, ◌^◌, ◌≤◌, ◌<◌};
 ghost use Rattle.float.specs.Root.{RootBits, RootOf, root_of};
 
-#[derive(Clone, Copy)]
-pub enum Rooted {
-    Value(f32),
-    Refused,
-}
-
 // The largest r with r * r <= n, by halving the interval from r up to r + b in which it lies.
 fn floor_root(n: u64) -> u64
     requires { n < 2 ^ 48 }
@@ -15,6 +9,7 @@ fn floor_root(n: u64) -> u64
 {
     let mut r = 0u64;
     let mut b = 16777216u64;
+    // The interval is halved by each turn.
     while 1 < b {
         b = (b + 1) / 2;
         let t = r + b;
@@ -54,23 +49,23 @@ fn root_bits(m: u32, x: u32) -> u32
 }
 
 // The IEEE 754 square root of x, rounded to the nearest f32, for a finite x that is not below zero.
-pub fn root(x: f32) -> Rooted
+pub fn root(x: f32) -> Option<f32>
     ensures { (result ≡ root_of x) × RootOf x result }
 {
     if x != x {
-        return Rooted::Refused;
+        return None;
     }
     let b = f32::to_bits(x);
     if b % 2147483648 == 0 {
-        return Rooted::Value(x);
+        return Some(x);
     }
     if 2139095040 <= b {
-        return Rooted::Refused;
+        return None;
     }
     let field = b / 8388608;
     let digits = b % 8388608;
     if field == 0 {
-        return Rooted::Value(f32::from_bits(root_bits(digits, 0)));
+        return Some(f32::from_bits(root_bits(digits, 0)));
     }
-    Rooted::Value(f32::from_bits(root_bits(digits + 8388608, field - 1)))
+    Some(f32::from_bits(root_bits(digits + 8388608, field - 1)))
 }

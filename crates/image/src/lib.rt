@@ -11,23 +11,16 @@ ghost use Rattle.image.specs.Loads.{Loadable, Loaded};
 
 use mesh::Counts;
 
-// A byte as a number.
-fn wide(x: u8) -> usize
-    ensures { (result ≡ x) × (result < 256) }
-{
-    x as usize
-}
-
 // Word i of the bytes.
 pub fn word_at(bytes: &[u8], i: usize) -> usize
     requires { 4 * i + 4 ≤ length bytes.now }
     ensures { (result ≡ word_at_of bytes.now i) × (result < 4294967296) }
 {
     let at = 4 * i;
-    let a = wide(bytes[at]);
-    let b = wide(bytes[at + 1]);
-    let c = wide(bytes[at + 2]);
-    let d = wide(bytes[at + 3]);
+    let a = usize::from(bytes[at]);
+    let b = usize::from(bytes[at + 1]);
+    let c = usize::from(bytes[at + 2]);
+    let d = usize::from(bytes[at + 3]);
     a + 256 * b + 65536 * c + 16777216 * d
 }
 
@@ -54,10 +47,8 @@ pub fn words_into(bytes: &[u8], at: usize, n: usize, out: &mut [usize])
     requires { (4 * (at + n) ≤ length bytes.now) × (n ≤ length out.old) }
     ensures { take n out.new ≡ words_from bytes.now at n }
 {
-    let mut i: usize = 0;
-    while i < n {
+    for i in 0..n {
         out[i] = word_at(bytes, at + i);
-        i += 1;
     }
 }
 
@@ -66,10 +57,8 @@ pub fn numbers_into(bytes: &[u8], at: usize, n: usize, out: &mut [f32])
     requires { (4 * (at + n) ≤ length bytes.now) × (n ≤ length out.old) }
     ensures { take n out.new ≡ numbers_from bytes.now at n }
 {
-    let mut i: usize = 0;
-    while i < n {
+    for i in 0..n {
         out[i] = number_of(word_at(bytes, at + i));
-        i += 1;
     }
 }
 

@@ -9,10 +9,12 @@ mod runs;
 ghost use Rattle.std.specs.Prelude.{◌≡◌, true};
 ghost use Rattle.model.specs.Valid.{numbers_fit_of, indices_fit_of};
 ghost use Rattle.mesh.specs.Given.{mesh_of};
+ghost use Rattle.mesh.specs.Refused.{refusal_in};
 ghost use Rattle.judge.specs.Checks.{fault_in};
 ghost use Rattle.image.specs.Image.{image_of, image_sized_of};
 
 use judge::tests;
+use mesh::refusals::Refusal;
 
 // The numbers and flags of the mesh that an image is.
 fn numbers_fit(bytes: &[u8]) -> bool
@@ -45,14 +47,11 @@ fn indices_fit(bytes: &[u8]) -> bool
     tests::both(z, rows::pairs_fit(bytes, edges + 8 * e, p, b))
 }
 
-// The refusals 2 and 3 of the mesh that an image is, 0 for none.
-pub fn image_fault(bytes: &[u8]) -> usize
+// The refusals 2 and 3 of the mesh that an image is.
+pub fn image_fault(bytes: &[u8]) -> Result<(), Refusal>
     requires { image_sized_of bytes.now ≡ true }
-    ensures { result ≡ fault_in (mesh_of (image_of bytes.now)) }
+    ensures { refusal_in result ≡ fault_in (mesh_of (image_of bytes.now)) }
 {
-    let code = tests::first(0, numbers_fit(bytes), 2);
-    if code != 0 {
-        return code;
-    }
-    tests::first(code, indices_fit(bytes), 3)
+    tests::ensure(numbers_fit(bytes), Refusal::Number)?;
+    tests::ensure(indices_fit(bytes), Refusal::Name)
 }

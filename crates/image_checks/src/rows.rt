@@ -52,13 +52,11 @@ pub fn corners_fit(bytes: &[u8], at: usize, n: usize, t: usize) -> bool
     let third = second + t;
     let room = faults::LIMIT - n;
     let mut fault: usize = 0;
-    let mut i: usize = 0;
-    while i < t {
+    for i in 0..t {
         let a = image::word_at(bytes, at + i);
         let b = image::word_at(bytes, second + i);
         let c = image::word_at(bytes, third + i);
         fault = fault | places::three(n, room, a, b, c);
-        i += 1;
     }
     fault < faults::LIMIT
 }
@@ -71,12 +69,10 @@ pub fn pairs_fit(bytes: &[u8], at: usize, n: usize, t: usize) -> bool
     let second = at + t;
     let room = faults::LIMIT - n;
     let mut fault: usize = 0;
-    let mut i: usize = 0;
-    while i < t {
+    for i in 0..t {
         let a = image::word_at(bytes, at + i);
         let b = image::word_at(bytes, second + i);
         fault = fault | places::two(n, room, a, b);
-        i += 1;
     }
     fault < faults::LIMIT
 }

@@ -14,11 +14,9 @@ pub fn in_range(bytes: &[u8], at: usize, n: usize) -> bool
     ensures { result ≡ numbers_ok number? bytes.now at n }
 {
     let mut ok = true;
-    let mut i: usize = 0;
-    while i < n {
+    for i in 0..n {
         let x = image::number_of(image::word_at(bytes, at + i));
         ok = tests::both(ok, float::range::in_range(x));
-        i += 1;
     }
     ok
 }
@@ -29,11 +27,9 @@ pub fn finite(bytes: &[u8], at: usize, n: usize) -> bool
     ensures { result ≡ numbers_ok finite? bytes.now at n }
 {
     let mut ok = true;
-    let mut i: usize = 0;
-    while i < n {
+    for i in 0..n {
         let x = image::number_of(image::word_at(bytes, at + i));
         ok = tests::both(ok, float::range::finite(x));
-        i += 1;
     }
     ok
 }
@@ -44,11 +40,9 @@ pub fn volumes(bytes: &[u8], at: usize, n: usize) -> bool
     ensures { result ≡ numbers_ok volume? bytes.now at n }
 {
     let mut ok = true;
-    let mut i: usize = 0;
-    while i < n {
+    for i in 0..n {
         let x = image::number_of(image::word_at(bytes, at + i));
         ok = tests::both(ok, float::range::volume_in_range(x));
-        i += 1;
     }
     ok
 }
@@ -59,11 +53,9 @@ pub fn lengths(bytes: &[u8], at: usize, n: usize) -> bool
     ensures { result ≡ numbers_ok length? bytes.now at n }
 {
     let mut ok = true;
-    let mut i: usize = 0;
-    while i < n {
+    for i in 0..n {
         let x = image::number_of(image::word_at(bytes, at + i));
         ok = tests::both(ok, tests::length_ok(x));
-        i += 1;
     }
     ok
 }
@@ -74,10 +66,8 @@ pub fn flags(bytes: &[u8], at: usize, n: usize) -> bool
     ensures { result ≡ words_ok flag? bytes.now at n }
 {
     let mut bits: usize = 0;
-    let mut i: usize = 0;
-    while i < n {
+    for i in 0..n {
         bits = bits | image::word_at(bytes, at + i);
-        i += 1;
     }
     bits < 2
 }
@@ -89,10 +79,8 @@ pub fn below(bytes: &[u8], at: usize, bound: usize, n: usize) -> bool
 {
     let room = faults::LIMIT - bound;
     let mut fault: usize = 0;
-    let mut i: usize = 0;
-    while i < n {
+    for i in 0..n {
         fault = fault | places::one(bound, room, image::word_at(bytes, at + i));
-        i += 1;
     }
     fault < faults::LIMIT
 }

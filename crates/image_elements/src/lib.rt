@@ -35,16 +35,14 @@ fn triangle_rows(
     ensures { Tabled 3 (triangles_from 0 (triangles_at t (words_from bytes.now at (3 * t)) (numbers_from bytes.now
         (at + 3 * t) (2 * t)))) t numbers.new verts.new measures.new }
 {
-    let mut i: usize = 0;
     let mut o: usize = 0;
-    while i < t {
+    for i in 0..t {
         numbers[i] = i;
         verts[o] = image::word_at(bytes, at + i);
         verts[o + 1] = image::word_at(bytes, at + t + i);
         verts[o + 2] = image::word_at(bytes, at + 2 * t + i);
         measures[i] = float::abs::abs(number_at(bytes, at + 3 * t + i));
         o += 3;
-        i += 1;
     }
 }
 
@@ -62,10 +60,9 @@ fn strap_rows(
     ensures { Tabled 2 (straps_from 0 (edges_at e (words_from bytes.now at (4 * e)) (numbers_from bytes.now
         (at + 4 * e) (4 * e)))) result numbers.new verts.new measures.new }
 {
-    let mut i: usize = 0;
     let mut n: usize = 0;
     let mut o: usize = 0;
-    while i < e {
+    for i in 0..e {
         if image::word_at(bytes, at + 2 * e + i) == 1 {
             numbers[n] = i;
             verts[o] = image::word_at(bytes, at + i);
@@ -74,7 +71,6 @@ fn strap_rows(
             o += 2;
             n += 1;
         }
-        i += 1;
     }
     n
 }

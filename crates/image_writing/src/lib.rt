@@ -15,11 +15,7 @@ use mesh::Counts;
 pub fn clear_bytes(out: &mut [u8])
     ensures { out.new ≡ written (length out.old) [] }
 {
-    let mut i: usize = 0;
-    while i < out.len() {
-        out[i] = 0;
-        i += 1;
-    }
+    columns::clear(0, out);
 }
 
 // Puts 0 into every byte from place n on: behind what was written to the front, whatever stood there.
@@ -27,11 +23,7 @@ pub fn clear_bytes_from(out: &mut [u8], n: usize)
     requires { n ≤ length out.old }
     ensures { out.new ≡ padded (length out.old) 0 (take n out.old) }
 {
-    let mut i: usize = n;
-    while i < out.len() {
-        out[i] = 0;
-        i += 1;
-    }
+    columns::clear(n, out);
 }
 
 // The low byte of a number.
@@ -77,10 +69,8 @@ pub fn words_out(out: &mut [u8], first: usize, table: &[usize], n: usize)
     ensures { out.new ≡ written (length out.old) (first ∷ take n table.now) }
 {
     write_one(out, first);
-    let mut i: usize = 0;
-    while i < n {
+    for i in 0..n {
         put_word(out, i + 1, table[i]);
-        i += 1;
     }
 }
 
@@ -99,10 +89,8 @@ pub fn store_words(words: &[usize], at: usize, out: &mut [u8])
     requires { 4 * (at + length words.now) ≤ length out.old }
     ensures { out.new ≡ put_words out.old at words.now }
 {
-    let mut i: usize = 0;
-    while i < words.len() {
+    for i in 0..words.len() {
         put_word(out, at + i, words[i]);
-        i += 1;
     }
 }
 
@@ -111,10 +99,8 @@ pub fn store_numbers(numbers: &[f32], at: usize, out: &mut [u8])
     requires { 4 * (at + length numbers.now) ≤ length out.old }
     ensures { out.new ≡ put_words out.old at (bits_in_of numbers.now) }
 {
-    let mut i: usize = 0;
-    while i < numbers.len() {
+    for i in 0..numbers.len() {
         put_word(out, at + i, bits_of(numbers[i]));
-        i += 1;
     }
 }
 
@@ -125,13 +111,11 @@ fn store_words_left(column: &[usize], s: usize, gone: &[usize], at: usize, out: 
 {
     let mut from: usize = 0;
     let mut to: usize = at;
-    let mut j: usize = 0;
-    while j < s {
+    for j in 0..s {
         let end = gone[j];
         store_words(&column[from..end], to, out);
         to += end - from;
         from = end + 1;
-        j += 1;
     }
     let end = column.len();
     store_words(&column[from..end], to, out);
@@ -152,15 +136,13 @@ fn store_words_block(
         (left_fronts width n (length block.now / width) (take s gone.now) block.now) }
 {
     let stride = block.len() / width;
-    let mut c: usize = 0;
     let mut o: usize = 0;
     let mut to: usize = at;
-    while c < width {
+    for c in 0..width {
         let end = o + n;
         store_words_left(&block[o..end], s, gone, to, out);
         o += stride;
         to += n - s;
-        c += 1;
     }
 }
 
@@ -172,13 +154,11 @@ fn store_numbers_left(column: &[f32], s: usize, gone: &[usize], at: usize, out: 
 {
     let mut from: usize = 0;
     let mut to: usize = at;
-    let mut j: usize = 0;
-    while j < s {
+    for j in 0..s {
         let end = gone[j];
         store_numbers(&column[from..end], to, out);
         to += end - from;
         from = end + 1;
-        j += 1;
     }
     let end = column.len();
     store_numbers(&column[from..end], to, out);
@@ -199,15 +179,13 @@ fn store_numbers_block(
         (bits_in_of (left_fronts width n (length block.now / width) (take s gone.now) block.now)) }
 {
     let stride = block.len() / width;
-    let mut c: usize = 0;
     let mut o: usize = 0;
     let mut to: usize = at;
-    while c < width {
+    for c in 0..width {
         let end = o + n;
         store_numbers_left(&block[o..end], s, gone, to, out);
         o += stride;
         to += n - s;
-        c += 1;
     }
 }
 

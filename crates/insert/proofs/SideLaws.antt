@@ -18,8 +18,7 @@ use Rattle.model.specs.Mesh.{Side}
 use Rattle.model.specs.Cut.{shortened, appended}
 use Rattle.mesh.specs.At.{side_row, boundary_at}
 use Rattle.work.specs.Rows.{GrownTo, Between}
-use Rattle.work.specs.declared.Grown.{Grown}
-use Rattle.work.specs.declared.Grown.TheVariants.{Lacking, Rows}
+use Rattle.std.specs.Prelude.{Option, None, Some}
 use Rattle.work.proofs.Grows.{grown_all}
 use Rattle.insert.specs.Sides.{EntryGrown, SidesInserted}
 use Rattle.insert.proofs.Passes.{passed, passed_start, passed_end, passed_step, passed_long}
@@ -90,7 +89,7 @@ module _ (i end from to m : ℕ) (s : List ℕ) (inside : i < m) (wide : m < len
         corners = (store_col 0 R s 1 i end 0 i (omega arith) (omega arith) (λ q. omega arith) ∙ col_0 0 R s i) z ∷ store_same 0 R s 1 i end (omega arith) z ∷ [];
       }))
 
-  grew_cols : (room : ℕ) → m < room → EntryGrown (record { corners = get_or s i 0 ∷ end ∷ [] }) (record { corners = from ∷ to ∷ [] } ∷ []) i m room s s₃ (Rows (m + 1))
+  grew_cols : (room : ℕ) → m < room → EntryGrown (record { corners = get_or s i 0 ∷ end ∷ [] }) (record { corners = from ∷ to ∷ [] } ∷ []) i m room s s₃ (Some (m + 1))
   unfolding boundary_at
   grew_cols room h =
       record {
@@ -104,17 +103,17 @@ module _ (i end from to m : ℕ) (s : List ℕ) (inside : i < m) (wide : m < len
 
   -- as the program writes the places
   pub grew_one : (room : ℕ) → m < room
-      → EntryGrown (record { corners = get_or s i 0 ∷ end ∷ [] }) (record { corners = from ∷ to ∷ [] } ∷ []) i m room s (set (set (set s (length s / 2 + i) end) m from) (length s / 2 + m) to) (Rows (m + 1))
+      → EntryGrown (record { corners = get_or s i 0 ∷ end ∷ [] }) (record { corners = from ∷ to ∷ [] } ∷ []) i m room s (set (set (set s (length s / 2 + i) end) m from) (length s / 2 + m) to) (Some (m + 1))
   unfolding s₁ s₂ s₃
   grew_one room h =
       let e₀ : 0 * (length s / 2) + m ≡ m = omega arith in
       let e₁ : 1 * (length s / 2) + i ≡ length s / 2 + i = omega arith in
       let e₂ : 1 * (length s / 2) + m ≡ length s / 2 + m = omega arith in
-      subst (λ (z : List ℕ). EntryGrown (record { corners = get_or s i 0 ∷ end ∷ [] }) (record { corners = from ∷ to ∷ [] } ∷ []) i m room s z (Rows (m + 1)))
+      subst (λ (z : List ℕ). EntryGrown (record { corners = get_or s i 0 ∷ end ∷ [] }) (record { corners = from ∷ to ∷ [] } ∷ []) i m room s z (Some (m + 1)))
       (ap₂ (λ (x y : ℕ). set (set (set s x end) y from) (1 * (length s / 2) + m) to) e₁ e₀ ∙ ap (λ (x : ℕ). set (set (set s (length s / 2 + i) end) m from) x to) e₂) (grew_cols room h)
 
 -- no room for one more
-pub grew_none : (new : Side) (more : Side) (i m room : ℕ) (s : List ℕ) → m ≡ room → EntryGrown new (more ∷ []) i m room s s Lacking
+pub grew_none : (new : Side) (more : Side) (i m room : ℕ) (s : List ℕ) → m ≡ room → EntryGrown new (more ∷ []) i m room s s None
 grew_none new more i m room s e =
     record {
       sides = lt-leb _ room (rw (length-append, length-set) (omega (arith, sides_many m s)));
@@ -124,7 +123,7 @@ grew_none new more i m room s e =
 
 -- ---- one entry
 
-entry_as : {new new' : Side} {more more' : List Side} (i m room : ℕ) (s s' : List ℕ) (r : Grown) → new ≡ new' → more ≡ more' → EntryGrown new more i m room s s' r → EntryGrown new' more' i m room s s' r
+entry_as : {new new' : Side} {more more' : List Side} (i m room : ℕ) (s s' : List ℕ) (r : Option ℕ) → new ≡ new' → more ≡ more' → EntryGrown new more i m room s s' r → EntryGrown new' more' i m room s s' r
 entry_as {new} {new'} {more} {more'} i m room s s' r e d G =
     subst (λ (x : Side). EntryGrown x more' i m room s s' r) e (subst (λ (l : List Side). EntryGrown new l i m room s s' r) d G)
 
@@ -166,7 +165,7 @@ module _ (x y a b p q : ℕ) where
     unfolding appended
     app_none k = rw (same_two x y a b, n, same_two x y b a, k)
 
-module _ (i a b p q m room : ℕ) (s s' : List ℕ) (r : Grown) where
+module _ (i a b p q m room : ℕ) (s s' : List ℕ) (r : Option ℕ) where
   abbrev first : ℕ
   first = get_or s i 0
 
@@ -187,11 +186,11 @@ module _ (i a b p q m room : ℕ) (s s' : List ℕ) (r : Grown) where
 
 -- another entry
 pub entry_other : (i a b p q m room : ℕ) (s : List ℕ) → i < m → m ≤ room → eqb (get_or s i 0) a && eqb (get_or s (length s / 2 + i) 0) b ≡ false → eqb (get_or s i 0) b && eqb (get_or s (length s / 2 + i) 0) a ≡ false
-    → EntryGrown (shortened a b p q (entry_at s i)) (appended a b p q (entry_at s i)) i m room s s (Rows m)
+    → EntryGrown (shortened a b p q (entry_at s i)) (appended a b p q (entry_at s i)) i m room s s (Some m)
 entry_other i a b p q m room s l h n k =
     let x = get_or s i 0 in
     let y = get_or s (length s / 2 + i) 0 in
-    entry_as i m room s s (Rows m) (short_none x y a b p q n k ∙ ap (shortened a b p q) (entry_read s i)) (app_none x y a b p q n k ∙ ap (appended a b p q) (entry_read s i))
+    entry_as i m room s s (Some m) (short_none x y a b p q n k ∙ ap (shortened a b p q) (entry_read s i)) (app_none x y a b p q n k ∙ ap (appended a b p q) (entry_read s i))
     (record {
       sides =
           grown_all m room _ (λ z. boundary_at z s) (sides_many m s) h
@@ -217,7 +216,7 @@ module _ (a b p q n room : ℕ) (s₀ : List ℕ) where
       record { sides = passed_start (shortened a b p q) (appended a b p q) (boundary_at n s₀); ahead = λ j l k. refl; inside = zero-le; least = omega arith; most = h; long = refl }
 
   module _ (s : List ℕ) (rows i : ℕ) (P : SidePassing a b p q n room s₀ s rows i) where
-    pub side_done : n ≤ i → SidesInserted a b p q n room s₀ s (Rows rows)
+    pub side_done : n ≤ i → SidesInserted a b p q n room s₀ s (Some rows)
     side_done h =
         let low = P.inside in
         let all : i ≡ length (boundary_at n s₀) = omega (arith, sides_many n s₀) in
@@ -228,7 +227,7 @@ module _ (a b p q n room : ℕ) (s₀ : List ℕ) where
           between = (P.least, P.most);
         }
 
-    module _ (l : i < n) (r : Grown) (s' : List ℕ) (S : EntryGrown (shortened a b p q (entry_at s i)) (appended a b p q (entry_at s i)) i rows room s s' r) where
+    module _ (l : i < n) (r : Option ℕ) (s' : List ℕ) (S : EntryGrown (shortened a b p q (entry_at s i)) (appended a b p q (entry_at s i)) i rows room s s' r) where
       more : set (boundary_at rows s) i (shortened a b p q (entry_at s i)) ++ appended a b p q (entry_at s i) ≡ passed (shortened a b p q) (appended a b p q) (i + 1) (boundary_at n s₀)
       more =
           let B = boundary_at n s₀ in
@@ -236,10 +235,10 @@ module _ (a b p q n room : ℕ) (s₀ : List ℕ) where
           ap₂ (λ (t : List Side) (z : Side). set t i (shortened a b p q z) ++ appended a b p q z) P.sides row
           ∙ passed_step (shortened a b p q) (appended a b p q) B i blank_side (omega (arith, sides_many n s₀))
 
-      pub side_lacks : r ≡ Lacking → SidesInserted a b p q n room s₀ s' Lacking
+      pub side_lacks : r ≡ None → SidesInserted a b p q n room s₀ s' None
       side_lacks e =
           let B = boundary_at n s₀ in
-          let lacks = subst (λ (z : Grown). GrownTo z room (set (boundary_at rows s) i (shortened a b p q (entry_at s i)) ++ appended a b p q (entry_at s i)) (λ m. boundary_at m s')) e S.sides in
+          let lacks = subst (λ (z : Option ℕ). GrownTo z room (set (boundary_at rows s) i (shortened a b p q (entry_at s i)) ++ appended a b p q (entry_at s i)) (λ m. boundary_at m s')) e S.sides in
           let low = leb-false _ room lacks in
           let is = ap length more in
           record {
@@ -247,13 +246,13 @@ module _ (a b p q n room : ℕ) (s₀ : List ℕ) where
             between = zero-le;
           }
 
-      pub side_step : (m : ℕ) → r ≡ Rows m → length s' ≡ length s → SidePassing a b p q n room s₀ s' m (i + 1)
+      pub side_step : (m : ℕ) → r ≡ Some m → length s' ≡ length s → SidePassing a b p q n room s₀ s' m (i + 1)
       side_step m e k =
           let between = subst (Between rows room) e S.between in
           let low = P.least in
           record {
             sides =
-                (subst (λ (z : Grown). GrownTo z room (set (boundary_at rows s) i (shortened a b p q (entry_at s i)) ++ appended a b p q (entry_at s i)) (λ j. boundary_at j s')) e S.sides).2 ∙ more;
+                (subst (λ (z : Option ℕ). GrownTo z room (set (boundary_at rows s) i (shortened a b p q (entry_at s i)) ++ appended a b p q (entry_at s i)) (λ j. boundary_at j s')) e S.sides).2 ∙ more;
             ahead = λ j g h. S.others j (omega arith) (λ z. omega arith) ∙ P.ahead j (omega arith) h;
             inside = omega arith;
             least = omega (arith, between.0);

@@ -24,15 +24,15 @@ use Rattle.mesh.specs.declared.Counts.{Counts}
 use Rattle.mesh.specs.declared.Rooms.{Rooms}
 use Rattle.mesh.proofs.Lists.{particles_length, edges_length, log_length, mesh_path, world_path}
 use Rattle.work.specs.Rows.{GrownTo}
-use Rattle.work.specs.declared.Grown.{Grown}
-use Rattle.work.specs.declared.Grown.TheVariants.{Lacking, Rows}
-use Rattle.work.specs.declared.Ran.{Ran}
-use Rattle.work.specs.declared.Ran.TheVariants.{Refused, Done}
+use Rattle.std.specs.Prelude.{Option, None, Some}
+use Rattle.work.specs.Ran.{Ran}
 use Rattle.insert.specs.Plans.{planned}
 use Rattle.insert.specs.Sides.{SidesInserted}
 use Rattle.insert.specs.Inserts.{EdgesInserted, ParticlesInserted}
 use Rattle.insert.specs.Steps.{StepRoom, InsertTold}
 use Rattle.insert.specs.declared.plan.Plan.{Plan}
+use Rattle.std.specs.Prelude.{Ok, Err}
+use Rattle.mesh.specs.declared.refusals.Refusal.TheVariants.{Boundary, Edges, Entries, Particles}
 
 -- ---- which room lacks
 
@@ -142,7 +142,7 @@ module _ (plan : Plan) (L : Rooms) (k : Counts) (points : List Float) (roots end
     abbrev Told : Ran → Type 0
     Told r = InsertTold plan L k points roots ends lengths outline log points' roots' ends' lengths' outline' log' r
 
-    pub told_5 : L.particles < plan.before + 2 → Told (Refused 5)
+    pub told_5 : L.particles < plan.before + 2 → Told (Err Particles)
     told_5 h =
         record {
           works = λ cs vs. record {
@@ -151,7 +151,7 @@ module _ (plan : Plan) (L : Rooms) (k : Counts) (points : List Float) (roots end
         }
 
     module _ (a : plan.before + 2 ≤ L.particles) where
-      pub told_6 : L.edges < k.edges + 1 → Told (Refused 6)
+      pub told_6 : L.edges < k.edges + 1 → Told (Err Edges)
       told_6 h =
           record {
             works = λ cs vs. record {
@@ -159,14 +159,14 @@ module _ (plan : Plan) (L : Rooms) (k : Counts) (points : List Float) (roots end
             };
           }
 
-      module _ (b : k.edges + 1 ≤ L.edges) (r : Grown) (G : SidesInserted plan.row.a plan.row.b plan.before (plan.before + 1) k.boundary L.boundary outline outline' r) where
-        pub told_7 : r ≡ Lacking → Told (Refused 7)
+      module _ (b : k.edges + 1 ≤ L.edges) (r : Option ℕ) (G : SidesInserted plan.row.a plan.row.b plan.before (plan.before + 1) k.boundary L.boundary outline outline' r) where
+        pub told_7 : r ≡ None → Told (Err Boundary)
         told_7 e =
             record {
               works = λ cs vs. record {
                 went =
                     λ R w f.
-                    let low = leb-false (length new_sides) L.boundary (subst (λ (z : Grown). GrownTo z L.boundary new_sides (λ m. boundary_at m outline')) e G.sides) in
+                    let low = leb-false (length new_sides) L.boundary (subst (λ (z : Option ℕ). GrownTo z L.boundary new_sides (λ m. boundary_at m outline')) e G.sides) in
                     let is = ap length (sides_are cs vs R w) in (
                       step_fault (as_rooms L) I R f
                           ∙ lacks_7 (as_rooms L) (need_by I R) (omega (arith, need_particles cs vs R w)) (omega (arith, need_edges cs vs R w)) (omega (arith, low, is)),
@@ -175,11 +175,11 @@ module _ (plan : Plan) (L : Rooms) (k : Counts) (points : List Float) (roots end
               };
             }
 
-        module _ (rows : ℕ) (e : r ≡ Rows rows) where
-          grew : GrownTo (Rows rows) L.boundary new_sides (λ m. boundary_at m outline')
-          grew = subst (λ (z : Grown). GrownTo z L.boundary new_sides (λ m. boundary_at m outline')) e G.sides
+        module _ (rows : ℕ) (e : r ≡ Some rows) where
+          grew : GrownTo (Some rows) L.boundary new_sides (λ m. boundary_at m outline')
+          grew = subst (λ (z : Option ℕ). GrownTo z L.boundary new_sides (λ m. boundary_at m outline')) e G.sides
 
-          pub told_8 : L.log < k.log + 1 → Told (Refused 8)
+          pub told_8 : L.log < k.log + 1 → Told (Err Entries)
           told_8 h =
               record {
                 works = λ cs vs. record {
@@ -196,7 +196,7 @@ module _ (plan : Plan) (L : Rooms) (k : Counts) (points : List Float) (roots end
 
           pub told_done : k.log + 1 ≤ L.log → (t : ℕ) → t ≡ to_bits binary32 plan.at → ParticlesInserted plan points points' roots roots' → EdgesInserted plan k.edges ends ends' lengths lengths'
               → log_at (k.log + 1) log' ≡ log_at k.log log ++ (record { kind = 3; a = plan.row.a; b = plan.row.b; p = plan.before; q = plan.before + 1; t = t } ∷ [])
-              → Told (Done (record { particles = plan.before + 2; triangles = k.triangles; edges = k.edges + 1; boundary = rows; log = k.log + 1 }))
+              → Told (Ok (record { particles = plan.before + 2; triangles = k.triangles; edges = k.edges + 1; boundary = rows; log = k.log + 1 }))
           unfolding world_at mesh_at insert_step step_to inserted_mesh
           told_done h t bits P E N =
               record {

@@ -7,7 +7,7 @@ use Rattle.mesh.specs.declared.Rooms.{Rooms}
 use Rattle.mesh.specs.Widths.{point_columns, end_columns, length_columns, root_columns, side_columns, entry_words}
 use Rattle.mesh.specs.Limits.{particle_limit, edge_limit, entry_limit}
 use Rattle.work.specs.Working.{Within, Works}
-use Rattle.work.specs.declared.Ran.{Ran}
+use Rattle.work.specs.Ran.{Ran}
 use Rattle.insert.specs.Plans.{planned}
 use Rattle.insert.specs.declared.plan.Plan.{Plan}
 

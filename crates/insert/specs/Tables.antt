@@ -1,9 +1,8 @@
 -- The table of the edges at each particle (links/specs/Linked.antt) beside an insertion: what its functions ask of it, and what they leave. Definitions only.
-use Rattle.std.specs.Prelude.{ℕ, ◌+◌, ◌/◌, ◌<◌, ◌≤◌, ◌≡◌, List, length}
+use Rattle.std.specs.Prelude.{ℕ, ◌+◌, ◌/◌, ◌<◌, ◌≤◌, ◌≡◌, List, length, Ok, Err}
 use Rattle.columns.specs.Block.{cell}
 use Rattle.links.specs.Linked.{EdgesLinked}
-use Rattle.work.specs.declared.Ran.{Ran}
-use Rattle.work.specs.declared.Ran.TheVariants.{Refused, Done}
+use Rattle.work.specs.Ran.{Ran}
 use Rattle.insert.specs.declared.plan.Plan.{Plan}
 use Rattle.mesh.specs.Widths.{end_columns, length_columns}
 use Rattle.mesh.specs.Limits.{particle_limit, edge_limit}
@@ -29,5 +28,5 @@ pub record NewEnds (plan : Plan) (e : ℕ) : Type 0 where
 
 -- where a step is done, the table is that of the edges behind it
 abbrev pub EdgesAfter : List ℕ → List ℕ → Ran → Type 0
-EdgesAfter ends table (Refused c) = Unit {0}
-EdgesAfter ends table (Done q) = EdgesLinked q.edges ends table
+EdgesAfter ends table (Err c) = Unit {0}
+EdgesAfter ends table (Ok q) = EdgesLinked q.edges ends table

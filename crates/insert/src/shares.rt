@@ -36,6 +36,7 @@ fn total_at(v: usize, e: usize, ends: &[usize], lengths: &[f32], table: &[u16]) 
     let l = lengths.len() / mesh::LENGTH_COLUMNS;
     let mut s: f32 = 0.0;
     let mut at = links::first_at(v, table);
+    // A chain: each place tells the next, so there is no range to go over.
     while at > 0 {
         let i = at - 1;
         if ends[2 * rows + i] == 1 {

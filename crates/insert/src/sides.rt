@@ -6,9 +6,7 @@ ghost use Rattle.mesh.specs.Widths.{side_columns};
 ghost use Rattle.work.specs.Rows.{SideRoom};
 ghost use Rattle.insert.specs.Sides.{EntryGrown, SidesInserted};
 
-use work::Grown;
-
-// Entry i of m ends at `end` instead, and (from, to) is appended.
+// Entry i of m ends at `end` instead, and (from, to) is appended: how many entries there are then, or None where there is no room.
 fn grow_entry(
     i: usize,
     end: usize,
@@ -17,19 +15,19 @@ fn grow_entry(
     m: usize,
     room: usize,
     outline: &mut [usize],
-) -> Grown
+) -> Option<usize>
     requires { SideRoom m room (length outline.old) × (i < m) }
     ensures { EntryGrown (record { corners = get_or outline.old i 0 ∷ end ∷ [] }) (record { corners = from ∷ to ∷ [] } ∷ [])
         i m room outline.old outline.new result }
 {
     if m == room {
-        return Grown::Lacking;
+        return None;
     }
     let o = outline.len() / mesh::SIDE_COLUMNS;
     outline[o + i] = end;
     outline[m] = from;
     outline[o + m] = to;
-    Grown::Rows(m + 1)
+    Some(m + 1)
 }
 
 // Entry i of m, where (a, b) gets p behind a and q before b.
@@ -42,7 +40,7 @@ fn insert_side(
     m: usize,
     room: usize,
     outline: &mut [usize],
-) -> Grown
+) -> Option<usize>
     requires { SideRoom m room (length outline.old) × (i < m) }
     ensures { EntryGrown (shortened a b p q (side_row (length outline.old / side_columns) outline.old i))
         (appended a b p q (side_row (length outline.old / side_columns) outline.old i)) i m room outline.old
@@ -61,10 +59,10 @@ fn insert_side(
             return grow_entry(i, q, p, a, m, room, outline);
         }
     }
-    Grown::Rows(m)
+    Some(m)
 }
 
-// All n entries; the appended ones stand behind them.
+// All n entries; the appended ones stand behind them: how many entries there are then, or None where there is no room.
 pub fn insert_sides(
     a: usize,
     b: usize,
@@ -73,19 +71,13 @@ pub fn insert_sides(
     n: usize,
     room: usize,
     outline: &mut [usize],
-) -> Grown
+) -> Option<usize>
     requires { SideRoom n room (length outline.old) }
     ensures { SidesInserted a b p q n room outline.old outline.new result }
 {
     let mut rows = n;
-    let mut i: usize = 0;
-    while i < n {
-        let grown = insert_side(i, a, b, p, q, rows, room, outline);
-        let Grown::Rows(more) = grown else {
-            return Grown::Lacking;
-        };
-        rows = more;
-        i += 1;
+    for i in 0..n {
+        rows = insert_side(i, a, b, p, q, rows, room, outline)?;
     }
-    Grown::Rows(rows)
+    Some(rows)
 }

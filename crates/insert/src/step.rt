@@ -4,8 +4,9 @@ ghost use Rattle.insert.specs.Steps.{StepRoom, InsertTold};
 ghost use Rattle.insert.specs.Tables.{StrapLinked, EdgesAfter};
 
 use crate::plan::Plan;
+use mesh::refusals::Refusal;
 use mesh::{Counts, Rooms};
-use work::{Grown, Ran};
+use work::Ran;
 
 // The insertion that is planned, in the mesh whose counts are k. Where it is done, the table of the edges is kept true.
 pub fn insert(
@@ -33,17 +34,17 @@ pub fn insert(
     let e = k.edges;
     let g = k.log;
     if room.particles < n + 2 {
-        return Ran::Refused(mesh::refusals::PARTICLES);
+        return Err(Refusal::Particles);
     }
     if room.edges < e + 1 {
-        return Ran::Refused(mesh::refusals::EDGES);
+        return Err(Refusal::Edges);
     }
     let grown = crate::sides::insert_sides(a, b, n, n + 1, k.boundary, room.boundary, outline);
-    let Grown::Rows(sides) = grown else {
-        return Ran::Refused(mesh::refusals::BOUNDARY);
+    let Some(sides) = grown else {
+        return Err(Refusal::Boundary);
     };
     if room.log < g + 1 {
-        return Ran::Refused(mesh::refusals::ENTRIES);
+        return Err(Refusal::Entries);
     }
     crate::particles::insert_particles(plan, points, roots);
     crate::edges::insert_edges(plan, e, ends, lengths, table);
@@ -57,7 +58,7 @@ pub fn insert(
         work::notes::bits_of(plan.at),
         log,
     );
-    Ran::Done(Counts {
+    Ok(Counts {
         particles: n + 2,
         triangles: k.triangles,
         edges: e + 1,

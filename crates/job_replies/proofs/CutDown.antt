@@ -21,11 +21,11 @@ use Rattle.mesh_calls.specs.declared.Job.{Job}
 use Rattle.image.specs.Image.{image_of, image_sized_of}
 use Rattle.image.specs.Small.{middling_image}
 use Rattle.image.proofs.Smallness.{middling_loadable}
-use Rattle.mesh_replies.proofs.Places.{counts_told}
+use Rattle.mesh_replies.proofs.Places.{counts_told, local_fits}
 use Rattle.mesh_replies.specs.Both.{BothReplied}
 use Rattle.call_words.specs.Rooms.{Limited, lacks_room_of}
 use Rattle.job_replies.specs.Outcomes.{OutcomeReplied, with_rooms}
-use Rattle.job_replies.specs.Told.{middling_rooms_of, Middling}
+use Rattle.job_replies.specs.Told.{middling_rooms_of, Middling, BlocksRoom}
 use Rattle.job_replies.proofs.Roomier.{Roomier, job_roomier, roomier_replied}
 
 -- counts that fit blocks, by another name
@@ -63,6 +63,20 @@ large_roomed h =
       log = omega (arith, h.log);
     }
 
+pub large_blocks : (s : List ℕ) {R : Rooms} {logged : ℕ} → image_sized_of s ≡ true → Limited R logged → BlocksRoom s R 8192 2048 3072 2048 8192 4096 24576
+large_blocks s h l =
+    record {
+      image = local_fits s (sizes (image_of s)) h refl;
+      rooms = large_roomed l;
+      few_points = omega arith;
+      few_roots = omega arith;
+      few_corners = omega arith;
+      few_volumes = omega arith;
+      few_ends = omega arith;
+      few_outline = omega arith;
+      few_words = omega arith;
+    }
+
 -- ---- middling blocks
 
 pub middling_roomed : {R : Rooms} → Middling R → Roomed R (record { points = 256 * point_columns; roots = 512; corners = 768; volumes = 512; ends = 2048; lengths = 2048; outline = 1024; log = 3072 })
@@ -98,6 +112,20 @@ middling_fits s h f =
       lengths = omega (arith, q.2, a.lengths_room);
       outline = omega (arith, q.3, a.outline_room);
       log = omega arith;
+    }
+
+pub middling_blocks : (s : List ℕ) {R : Rooms} → image_sized_of s ≡ true → middling_image s ≡ true → Middling R → BlocksRoom s R 2048 512 768 512 2048 1024 3072
+middling_blocks s h f m =
+    record {
+      image = middling_fits s h f;
+      rooms = middling_roomed m;
+      few_points = omega arith;
+      few_roots = omega arith;
+      few_corners = omega arith;
+      few_volumes = omega arith;
+      few_ends = omega arith;
+      few_outline = omega arith;
+      few_words = omega arith;
     }
 
 -- ---- rooms that are cut down to them

@@ -22,11 +22,9 @@ use Rattle.edge_drops.specs.Parted.{listed, edges_parted, mesh_parted, world_par
 use Rattle.mesh.specs.declared.Counts.{Counts}
 use Rattle.mesh.specs.declared.Rooms.{Rooms as Given-Rooms}
 use Rattle.work.specs.Working.{Within, Roomed}
-use Rattle.work.specs.declared.Ran.{Ran}
-use Rattle.work.specs.declared.Ran.TheVariants.{Refused as Stopped, Done as Ended}
+use Rattle.work.specs.Ran.{Ran}
 use Rattle.call_frame.specs.Framed.{words_change, Came}
 use Rattle.call_frame.specs.declared.Answer.{Answer}
-use Rattle.call_frame.specs.declared.Answer.TheVariants.{Refused, Done}
 use Rattle.image.specs.Image.{image_words_of}
 use Rattle.image_writing.specs.Stores.{left_words}
 use Rattle.image_writing.proofs.Left.{rising_all, left_length}
@@ -38,6 +36,8 @@ use Rattle.job_replies.specs.Outcomes.{mesh_reply, log_reply, OutcomeReplied}
 use Rattle.call_frame.proofs.Calls.{Counted}
 use Rattle.mesh_replies.proofs.Shown.{told_image, rows_log}
 use Rattle.replies.proofs.Saying.{pick_small}
+use Rattle.std.specs.Prelude.{Ok, Err}
+use Rattle.mesh.specs.Refused.{number_of}
 
 -- ---- refusals are small
 
@@ -67,18 +67,18 @@ unless_small (suc n) L R h = h
 
 -- ---- what a call came to
 
--- the parts of an answer
-abbrev number_in : Answer → ℕ
-number_in (Refused n) = suc n
-number_in (Done k b) = 0
+-- the parts of an answer, its refusal as a number
+abbrev number_in : Read Answer → ℕ
+number_in (refused n) = suc n
+number_in (value a) = 0
 
-abbrev log_in : Answer → ℕ
-log_in (Refused n) = 0
-log_in (Done k b) = k.log
+abbrev log_in : Read Answer → ℕ
+log_in (refused n) = 0
+log_in (value a) = a.counts.log
 
-abbrev changed_in : Answer → Bool
-changed_in (Refused n) = false
-changed_in (Done k b) = b
+abbrev changed_in : Read Answer → Bool
+changed_in (refused n) = false
+changed_in (value a) = a.changed
 
 -- the counts of what the blocks hold without the listed edges
 pub parted_counted : (p : List Float) (r c : List ℕ) (v : List Float) (e : List ℕ) (l : List Float) (o g gone : List ℕ) (k : Counts) → Listing k.edges (length e) (length l) gone
@@ -103,9 +103,9 @@ module _ (R : Given-Rooms) (at : Counts → World) (gone : List ℕ) where
   pub came_telling : (o : Outcome) (ran : Ran) (lp lr lc lv le ll lo lg logged : ℕ) → Came o R at ran → ListingAfter le ll gone ran
       → Roomed R (record { points = lp; roots = lr; corners = lc; volumes = lv; ends = le; lengths = ll; outline = lo; log = lg }) → Limited R logged → SmallCode (mesh_reply o)
       → Telling ran gone lp lr lc lv le ll lo lg logged
-  came_telling (turned_down m) (Stopped n) lp lr lc lv le ll lo lg logged C Z A z s = let q : suc n ≡ suc m = ap number_in C.said in omega (arith, q, s)
-  came_telling (done M es any) (Stopped n) lp lr lc lv le ll lo lg logged C Z A z s = let q : suc n ≡ 0 = ap number_in C.said in absurd (omega arith)
-  came_telling o (Ended k) lp lr lc lv le ll lo lg logged C Z A z s =
+  came_telling (turned_down m) (Err n) lp lr lc lv le ll lo lg logged C Z A z s = let q : suc (number_of n) ≡ suc m = ap number_in C.said in omega (arith, q, s)
+  came_telling (done M es any) (Err n) lp lr lc lv le ll lo lg logged C Z A z s = let q : suc (number_of n) ≡ 0 = ap number_in C.said in absurd (omega arith)
+  came_telling o (Ok k) lp lr lc lv le ll lo lg logged C Z A z s =
       let w : Within k R = C.within in
       record {
         points = omega (arith, w.particles, A.points);
@@ -130,10 +130,10 @@ module _ (R : Given-Rooms) (p : List Float) (r c : List ℕ) (v : List Float) (e
   came_words : (o : Outcome) (ran : Ran) → Came o R (λ k. world_parted k p r c v e l b g gone) ran → Telling ran gone (length p) (length r) (length c) (length v) (length e) (length l) (length b) (length g) logged
       → (mesh_told ran gone p r c v e l b g ≡ mesh_reply o) × (log_told ran g ≡ log_reply o)
   unfolding world_parted mesh_parted edges_parted
-  came_words (turned_down m) (Stopped n) C t = let q : suc n ≡ suc m = ap number_in C.said in let f : n ≡ m = omega (arith, q) in (ap refused f, refl)
-  came_words (done M es any) (Stopped n) C t = let q : suc n ≡ 0 = ap number_in C.said in absurd (omega arith)
-  came_words (turned_down m) (Ended k) C t = let q : 0 ≡ suc m = ap number_in C.said in absurd (omega arith)
-  came_words (done M es any) (Ended k) C t =
+  came_words (turned_down m) (Err n) C t = let q : suc (number_of n) ≡ suc m = ap number_in C.said in let f : number_of n ≡ m = omega (arith, q) in (ap refused f, refl)
+  came_words (done M es any) (Err n) C t = let q : suc (number_of n) ≡ 0 = ap number_in C.said in absurd (omega arith)
+  came_words (turned_down m) (Ok k) C t = let q : 0 ≡ suc m = ap number_in C.said in absurd (omega arith)
+  came_words (done M es any) (Ok k) C t =
       let changed : words_change (log_at k.log g) ≡ any = ap changed_in C.said in
       let logged' : k.log ≡ length es = ap log_in C.said in
       let rows : left_words k (listed_edges gone) p r c v e l b ≡ image_words_of M

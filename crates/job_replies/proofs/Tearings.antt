@@ -22,15 +22,14 @@ use Rattle.mesh.specs.Filled.{lent}
 use Rattle.mesh.specs.declared.Counts.{Counts}
 use Rattle.mesh.specs.declared.Rooms.{Rooms}
 use Rattle.work.specs.Working.{Roomed, Ready, Works, Logged}
-use Rattle.work.specs.declared.Ran.{Ran}
-use Rattle.work.specs.declared.Ran.TheVariants.{Refused as Stopped}
+use Rattle.work.specs.Ran.{Ran}
 use Rattle.call_frame.specs.Framed.{Begun, Came}
 use Rattle.call_frame.proofs.Begun.{begun_by}
 use Rattle.mesh_calls.specs.Jobs.{job_numbers, job_arguments, job_edition, job_refusal, job_run, job_call}
 use Rattle.perform.specs.Asks.{JobAsked}
 use Rattle.mesh_calls.specs.declared.Job.{Job}
 use Rattle.mesh_calls.specs.declared.Job.TheVariants.{Straddlers, Split, Cut, Crack}
-use Rattle.perform.proofs.Performed.{job_refused, job_asked, job_worked}
+use Rattle.perform.proofs.Performed.{job_turned, job_asked, job_worked}
 use Rattle.image.specs.Image.{image_of, image_sized_of}
 use Rattle.reading_replies.specs.Given.{SmallCode}
 use Rattle.mesh_replies.specs.Both.{BothReplied}
@@ -40,6 +39,7 @@ use Rattle.job_replies.specs.Outcomes.{mesh_reply, OutcomeReplied}
 use Rattle.replies.proofs.Saying.{refusal_small, pick_small}
 use Rattle.image.proofs.Loading.{sized_input}
 use Rattle.job_replies.proofs.Outcomes.{fault_small, unless_small, parted_counted, came_telling, came_replied}
+use Rattle.model.specs.Calls.{refused as turned_down}
 
 -- ---- what refuses a job is small
 
@@ -116,8 +116,10 @@ module _ (j : Job) (ls s : List ℕ) (R : Rooms) where
 
     pub lack_replied : (held : Mesh) (code lent' logged x : ℕ) (out log : List ℕ) → checked ≡ 0 → Begun 0 R (mesh_of (image_of s)) held code → (code ≡ 0 → ⊥) → BothReplied (refused code) [] lent' logged x out log → OutcomeReplied called lent' logged x out log
     lack_replied held code lent' logged x out log e B h b =
-        came_replied R [] [] [] [] [] [] [] [] [] logged called (Stopped code) lent' x out log
-        (to_sized (λ k. world_parted k [] [] [] [] [] [] [] [] []) (Stopped code) (job_refused j ls (image_of s) (begun_by B (sym e ∙ by_sizes)) h (λ k. world_parted k [] [] [] [] [] [] [] [] []))) (lack_small held code B) b
+        subst (λ (o : Outcome). OutcomeReplied o lent' logged x out log) (sym turned) b
+      where
+        turned : called ≡ turned_down code
+        turned = ap (λ (z : Bool). job_call j ls z (mesh_of (image_of s)) (as_rooms R)) (sym (sized_input s sized)) ∙ job_turned j ls (image_of s) (begun_by B (sym e ∙ by_sizes)) h
 
     -- ---- the work
 

@@ -1,8 +1,10 @@
 -- The reply to a job on an image, in rooms that the program has. Only the contracts between the functions need this file. Definitions only.
-use Rattle.std.specs.Prelude.{ℕ, ◌≤◌, min, length}
+use Rattle.std.specs.Prelude.{ℕ, ◌≤◌, min, List, length}
 use Rattle.mesh.specs.declared.Rooms.{Rooms}
 use Rattle.image.specs.Image.{image_of, image_sized_of}
-use Rattle.mesh.specs.Given.{mesh_of, as_rooms}
+use Rattle.mesh.specs.Given.{mesh_of, sizes, as_rooms}
+use Rattle.mesh.specs.Filled.{Fits}
+use Rattle.work.specs.Working.{Roomed}
 use Rattle.mesh.specs.Blocks.{Indices, LentIndices}
 use Rattle.mesh_calls.specs.declared.Job.{Job}
 use Rattle.mesh_calls.specs.Jobs.{job_numbers, job_call}
@@ -31,3 +33,15 @@ pub record Middling (R : Rooms) : Type 0 where
   pub edges : R.edges ≤ 512
   pub boundary : R.boundary ≤ 512
   pub log : R.log ≤ 512
+
+-- blocks of these lengths have room for an image, and with a log of w words for rooms; none is longer than the most that a mesh may have asks for
+pub record BlocksRoom (s : List ℕ) (R : Rooms) (p r c v e o w : ℕ) : Type 0 where
+  pub image : Fits (sizes (image_of s)) (record { points = p; roots = r; corners = c; volumes = v; ends = e; lengths = e; outline = o; log = 0 })
+  pub rooms : Roomed R (record { points = p; roots = r; corners = c; volumes = v; ends = e; lengths = e; outline = o; log = w })
+  pub few_points : p ≤ 8192
+  pub few_roots : r ≤ 2048
+  pub few_corners : c ≤ 3072
+  pub few_volumes : v ≤ 2048
+  pub few_ends : e ≤ 8192
+  pub few_outline : o ≤ 4096
+  pub few_words : w ≤ 24576

@@ -70,9 +70,8 @@ fn reply_accepted(
     ensures { JobReplied job list bytes room out log result }
 {
     let k = mesh_replies::placing::image_counts(bytes);
-    let lack = call_frame::frame::lacking(k, room);
-    if lack != 0 {
-        return mesh_replies::outcome::refuse(lack, out, log);
+    if let Err(e) = call_frame::frame::lacking(k, room) {
+        return mesh_replies::outcome::refuse(e.number(), out, log);
     }
     reply_work(
         job, list, room, bytes, points, roots, corners, volumes, ends, lengths, outline, words,
@@ -110,9 +109,8 @@ pub fn reply_lent(
     let fault = mesh_calls::checks::judge_sized(
         job, list, room, k, points, roots, corners, volumes, ends, lengths, outline,
     );
-    let code = call_words::with_rooms(fault, rooms.len() == 16);
-    if code != 0 {
-        return mesh_replies::outcome::refuse(code, out, log);
+    if let Err(e) = call_words::with_rooms(fault, rooms.len() == 16) {
+        return mesh_replies::outcome::refuse(e.number(), out, log);
     }
     reply_accepted(
         job, list, room, bytes, points, roots, corners, volumes, ends, lengths, outline, words,

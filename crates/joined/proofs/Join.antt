@@ -1,4 +1,4 @@
--- What an entry that answers Done did: a call of a history, and the lent blocks hold what the call gave.
+-- What an entry that answers Ok did: a call of a history, and the lent blocks hold what the call gave.
 use mathlib.Core.Path.{◌≡◌, refl, sym, ◌∙◌, ap, subst}
 use mathlib.Core.Bool.{Bool, true, false}
 use mathlib.Core.List.{List, map}
@@ -12,7 +12,6 @@ use Rattle.mesh.specs.Given.{Given, Lent, mesh_of, sizes_fit_of}
 use Rattle.mesh.specs.Log.{world_of, words_of, words_in}
 use Rattle.mesh.specs.Filled.{Filled}
 use Rattle.mesh.specs.declared.Counts.{Counts}
-use Rattle.call_frame.specs.declared.Answer.TheVariants.{Done}
 use Rattle.call_frame.specs.Answered.{answer_of, counts_of, shown, front_of}
 use Rattle.call_frame.proofs.Front.{front_told}
 use Rattle.filled.specs.Counts.{counts_in}
@@ -21,6 +20,8 @@ use Rattle.model_laws.proofs.Accepted.{accepted_rowed}
 use Rattle.lineage.proofs.Again.{called_checked}
 use Rattle.lineage.specs.History.{Called, cutting, cracking, splitting, removing}
 use Rattle.joined.specs.Entries.{Asked, cuts, cracks, splits, straddlers, Blocks, held, rooms, Answering}
+use Rattle.call_frame.specs.declared.Answer.{Answer}
+use Rattle.model.specs.Reads.{value}
 
 -- what a call gave
 pub record Gave (o : Outcome) (k : Counts) (b : Bool) : Type 0 where
@@ -29,10 +30,12 @@ pub record Gave (o : Outcome) (k : Counts) (b : Bool) : Type 0 where
   pub is : o ≡ done mesh more b
   pub counts : k ≡ counts_of mesh more
 
--- what was answered Done is done
-done_of : (o : Outcome) (k : Counts) (b : Bool) → Done k b ≡ answer_of o → Gave o k b
-done_of (refused n) k b e = let z : ◌≡◌ {A = ℕ} 0 1 = cc in absurd (omega arith)
-done_of (done M more c) k b e = let s : c ≡ b = cc in record { mesh = M; more = more; is = ap (λ (x : Bool). done M more x) s; counts = cc }
+-- what was answered Ok is done
+done_of : (o : Outcome) (k : Counts) (b : Bool) → value (record { counts = k; changed = b }) ≡ answer_of o → Gave o k b
+done_of (refused n) k b e = let z : ◌≡◌ {A = ℕ} 0 1 = cc e in absurd (omega arith)
+done_of (done M more c) k b e =
+    let a : ◌≡◌ {A = Answer} (record { counts = k; changed = b }) (record { counts = counts_of M more; changed = c }) = cc e in
+    record { mesh = M; more = more; is = ap (λ (x : Answer). done M more x.changed) (sym a); counts = ap (λ (x : Answer). x.counts) a }
 
 -- a refusal is not done
 pub not_done : (n : ℕ) (M : Mesh) (l : List Entry) (c : Bool) → refused n ≡ done M l c → ⊥

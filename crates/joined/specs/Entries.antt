@@ -1,5 +1,5 @@
 -- A history of a mesh of triangles as a host sees it: blocks that are lent, what the contracts of the entries say of them, and the host at work between the calls. Definitions only.
-use Rattle.std.specs.Prelude.{ℕ, ◌*◌, ◌≡◌, Bool, List, [], ◌++◌, length, get_or, T, Float}
+use Rattle.std.specs.Prelude.{ℕ, ◌*◌, ◌≡◌, Bool, List, [], ◌++◌, length, get_or, T, Float, Ok}
 use Rattle.std.specs.Float.{nan, binary32}
 use Rattle.std.specs.Float.Ieee.{fits}
 use Rattle.model.specs.Mesh.{Mesh}
@@ -11,7 +11,6 @@ use Rattle.mesh.specs.Given.{Given, Lent, mesh_of, sizes_fit_of, rooms_of, as_ro
 use Rattle.mesh.specs.Filled.{lent}
 use Rattle.mesh.specs.declared.Counts.{Counts}
 use Rattle.mesh.specs.Widths.{point_columns}
-use Rattle.call_frame.specs.declared.Answer.TheVariants.{Done}
 use Rattle.call_frame.specs.Answered.{Answered, front_of}
 use Rattle.lineage.specs.History.{Begins, Moved, Stored}
 
@@ -41,12 +40,12 @@ pub record Blocks : Type 0 where
 abbrev pub held : Counts → Blocks → Mesh
 held k D = mesh_at k D.points D.roots D.corners D.volumes D.ends D.lengths D.outline
 
--- a call on the blocks G that answered Done with the counts k left the blocks D; lent blocks keep their lengths
+-- a call on the blocks G that answered Ok with the counts k left the blocks D; lent blocks keep their lengths
 pub record Answering (G : Given) (k : Counts) (b : Bool) (D : Blocks) : Type 0 where
   pub lengths : Lent
   pub outcome : Outcome
   pub asked : Asked G lengths outcome
-  pub answered : Answered outcome lengths (Done k b) D.points D.roots D.corners D.volumes D.ends D.lengths D.outline D.log
+  pub answered : Answered outcome lengths (Ok (record { counts = k; changed = b })) D.points D.roots D.corners D.volumes D.ends D.lengths D.outline D.log
   pub kept : lent D.points D.roots D.corners D.volumes D.ends D.lengths D.outline D.log ≡ lengths
 
 -- The mesh M₀, lent to the entries again and again, is now this mesh, and the fronts of the logs that were handed back, one behind the other, are these words.

@@ -5,6 +5,11 @@ use Rattle.columns.proofs.Rows.{both_true}
 use Rattle.model.specs.Valid.{named}
 use Rattle.mesh.specs.Given.{list_fits_of, lengths_fit}
 use Rattle.mesh.specs.Widths.{point_columns}
+use Rattle.mesh.specs.Refused.{number_of, refusal_in}
+use Rattle.mesh.specs.declared.refusals.Refusal.{Refusal}
+use Rattle.mesh.proofs.Refused.{refused_some, refusal_handed}
+use Rattle.std.specs.Prelude.{Result}
+use Rattle.std.specs.Result.{IsErrAnd}
 use Rattle.judge.specs.Checks.{then_check}
 use Rattle.lists.proofs.Truths.{untrue}
 
@@ -20,6 +25,20 @@ then_next z y x t u n e p q = e ∙ ap (λ (k : ℕ). then_check k t n) p ∙ ap
 pub then_stays : (code : ℕ) (t : Bool) (n : ℕ) → (code ≡ 0 → ⊥) → code ≡ then_check code t n
 unfolding then_check
 then_stays code t n h = rw (ne_eqb code 0 h) refl
+
+-- the first test of all: one that holds refuses nothing, one that does not is the refusal
+pub then_held : (t : Bool) (n : ℕ) → t ≡ true → 0 ≡ then_check 0 t n
+unfolding then_check
+then_held t n h = rw h refl
+
+pub then_denied : (t : Bool) (n : ℕ) → t ≡ false → n ≡ then_check 0 t n
+unfolding then_check
+then_denied t n h = rw h refl
+
+-- what a `?` hands on stays
+pub then_handed : {A : Type 0} (r : Result A Refusal) (e : Refusal) (y x : ℕ) (t u : Bool) (n m : ℕ) → IsErrAnd r (λ d. d ≡ e) → number_of e ≡ then_check y t n → y ≡ x → t ≡ u → (w : Bool) → refusal_in r ≡ then_check (then_check x u n) w m
+then_handed r e y x t u n m h k p q w =
+    then_next _ _ _ _ w m (refusal_handed r e h ∙ then_stays (number_of e) w m (refused_some e)) (then_next _ _ _ _ _ n k p q) refl
 
 -- where nothing refuses, this test holds, and nothing refused before
 pub then_zero : (code : ℕ) (t : Bool) (n : ℕ) → (n ≡ 0 → ⊥) → then_check code t n ≡ 0 → (code ≡ 0) × (t ≡ true)

@@ -3,6 +3,7 @@ ghost use Rattle.std.specs.Prelude.{◌≡◌, ◌*◌, ◌/◌, ◌≤◌, true
 ghost use Rattle.lists.specs.Lists.{all, up_to};
 ghost use Rattle.model.specs.Valid.{particle_ok, edge_ok, numbers_fit_of, indices_fit_of};
 ghost use Rattle.mesh.specs.Filled.{Fits};
+ghost use Rattle.mesh.specs.Refused.{refusal_in};
 ghost use Rattle.mesh.specs.At.{particles_at, edges_at};
 ghost use Rattle.judge.specs.Checks.{fault_in, fault_of};
 ghost use Rattle.mesh.specs.Workers.{ParticleRoom, EdgeRoom};
@@ -12,6 +13,7 @@ ghost use Rattle.mesh.specs.Widths.{corner_columns, root_columns, volume_columns
 
 use crate::{faults, ranges, tests};
 use mesh::Counts;
+use mesh::refusals::Refusal;
 
 // The numbers of the first n particles.
 fn particles_fit(n: usize, points: &[f32], roots: &[usize]) -> bool
@@ -72,10 +74,8 @@ fn corners_fit(n: usize, t: usize, corners: &[usize]) -> bool
     let c = corners.len() / mesh::CORNER_COLUMNS;
     let room = faults::LIMIT - n;
     let mut fault: usize = 0;
-    let mut i: usize = 0;
-    while i < t {
+    for i in 0..t {
         fault = fault | faults::three(n, room, corners[i], corners[c + i], corners[2 * c + i]);
-        i += 1;
     }
     fault < faults::LIMIT
 }
@@ -87,10 +87,8 @@ fn pairs_fit(n: usize, t: usize, stride: usize, s: &[usize]) -> bool
 {
     let room = faults::LIMIT - n;
     let mut fault: usize = 0;
-    let mut i: usize = 0;
-    while i < t {
+    for i in 0..t {
         fault = fault | faults::two(n, room, s[i], s[stride + i]);
-        i += 1;
     }
     fault < faults::LIMIT
 }
@@ -141,7 +139,7 @@ pub fn indices_fit(
     )
 }
 
-// The refusals 2 and 3 of the first k rows of seven blocks, 0 for none. The columns may be longer than the mesh.
+// The refusals 2 and 3 of the first k rows of seven blocks. The columns may be longer than the mesh.
 pub fn judge_sized(
     k: Counts,
     points: &[f32],
@@ -151,20 +149,17 @@ pub fn judge_sized(
     ends: &[usize],
     lengths: &[f32],
     outline: &[usize],
-) -> usize
+) -> Result<(), Refusal>
     requires { Fits k (inputs_in points roots corners volumes ends lengths outline) }
-    ensures { result ≡ fault_in (mesh_before k points roots corners volumes ends lengths outline) }
+    ensures { refusal_in result ≡ fault_in (mesh_before k points roots corners volumes ends lengths outline) }
 {
     let ok = numbers_fit(k, points, roots, corners, volumes, ends, lengths, outline);
-    let code = tests::first(0, ok, 2);
-    if code != 0 {
-        return code;
-    }
+    tests::ensure(ok, Refusal::Number)?;
     let ok = indices_fit(k, points, roots, corners, volumes, ends, lengths, outline);
-    tests::first(code, ok, 3)
+    tests::ensure(ok, Refusal::Name)
 }
 
-// The refusals 1 to 3 of any seven blocks, 0 for none.
+// The refusals 1 to 3 of any seven blocks.
 pub fn judge(
     points: &[f32],
     roots: &[usize],
@@ -173,8 +168,8 @@ pub fn judge(
     ends: &[usize],
     lengths: &[f32],
     outline: &[usize],
-) -> usize
-    ensures { result ≡ fault_of (given_before points roots corners volumes ends lengths outline) }
+) -> Result<(), Refusal>
+    ensures { refusal_in result ≡ fault_of (given_before points roots corners volumes ends lengths outline) }
 {
     let fit = tests::sizes_fit(
         points.len(),
@@ -186,7 +181,7 @@ pub fn judge(
         outline.len(),
     );
     if !fit {
-        return 1;
+        return Err(Refusal::Size);
     }
     let k = Counts {
         particles: points.len() / mesh::POINT_COLUMNS,

@@ -14,10 +14,8 @@ pub fn in_range(s: &[f32], at: usize, n: usize) -> bool
     ensures { result ≡ column_ok number? nan s.now at n }
 {
     let mut ok = true;
-    let mut i: usize = 0;
-    while i < n {
+    for i in 0..n {
         ok = tests::both(ok, float::range::in_range(s[at + i]));
-        i += 1;
     }
     ok
 }
@@ -28,10 +26,8 @@ pub fn finite(s: &[f32], at: usize, n: usize) -> bool
     ensures { result ≡ column_ok finite? nan s.now at n }
 {
     let mut ok = true;
-    let mut i: usize = 0;
-    while i < n {
+    for i in 0..n {
         ok = tests::both(ok, float::range::finite(s[at + i]));
-        i += 1;
     }
     ok
 }
@@ -42,10 +38,8 @@ pub fn volumes(s: &[f32], at: usize, n: usize) -> bool
     ensures { result ≡ column_ok volume? nan s.now at n }
 {
     let mut ok = true;
-    let mut i: usize = 0;
-    while i < n {
+    for i in 0..n {
         ok = tests::both(ok, float::range::volume_in_range(s[at + i]));
-        i += 1;
     }
     ok
 }
@@ -56,10 +50,8 @@ pub fn lengths(s: &[f32], at: usize, n: usize) -> bool
     ensures { result ≡ column_ok length? nan s.now at n }
 {
     let mut ok = true;
-    let mut i: usize = 0;
-    while i < n {
+    for i in 0..n {
         ok = tests::both(ok, tests::length_ok(s[at + i]));
-        i += 1;
     }
     ok
 }
@@ -70,10 +62,8 @@ pub fn flags(s: &[usize], at: usize, n: usize) -> bool
     ensures { result ≡ column_ok flag? 0 s.now at n }
 {
     let mut bits: usize = 0;
-    let mut i: usize = 0;
-    while i < n {
+    for i in 0..n {
         bits = bits | s[at + i];
-        i += 1;
     }
     bits < 2
 }
@@ -85,10 +75,8 @@ pub fn below(s: &[usize], bound: usize, n: usize) -> bool
 {
     let room = faults::LIMIT - bound;
     let mut fault: usize = 0;
-    let mut i: usize = 0;
-    while i < n {
+    for i in 0..n {
         fault = fault | faults::index(bound, room, s[i]);
-        i += 1;
     }
     fault < faults::LIMIT
 }

@@ -2,8 +2,11 @@
 ghost use Rattle.std.specs.Prelude.{◌≡◌, ◌/◌, ◌%◌, ◌&&◌, [], ◌∷◌};
 ghost use Rattle.model.specs.Valid.{named};
 ghost use Rattle.mesh.specs.Given.{list_fits_of, lengths_fit};
+ghost use Rattle.mesh.specs.Refused.{number_of, refusal_in};
 ghost use Rattle.judge.specs.Checks.{then_check};
 ghost use Rattle.judge.specs.Told.{length?};
+
+use mesh::refusals::Refusal;
 
 // Both tests hold.
 pub fn both(a: bool, b: bool) -> bool
@@ -12,15 +15,11 @@ pub fn both(a: bool, b: bool) -> bool
     if a { b } else { false }
 }
 
-// The first refusal: the one that is there, or this one where its test is false.
-pub fn first(code: usize, ok: bool, number: usize) -> usize
-    ensures { result ≡ then_check code ok number }
+// A test, and the refusal where it is false.
+pub fn ensure(ok: bool, refusal: Refusal) -> Result<(), Refusal>
+    ensures { refusal_in result ≡ then_check 0 ok (number_of refusal) }
 {
-    if code == 0 {
-        if ok { 0 } else { number }
-    } else {
-        code
-    }
+    if ok { Ok(()) } else { Err(refusal) }
 }
 
 // Two blocks of one list: nothing is left over, and the columns are equally long, at most the limit.

@@ -24,6 +24,7 @@ fn slot_at(
 {
     let mut at = v;
     let mut next = table[v] as usize;
+    // A chain: each place tells the next, so there is no range to go over.
     while next > 0 {
         if next > i {
             return at;
@@ -68,12 +69,10 @@ pub fn append_cell(
     requires { AppendRoom heads k span rows n corners.now table.old }
     ensures { LinksOf heads k span (n + 1) (cell 0 rows corners.now) table.new }
 {
-    let mut c: usize = 0;
     let mut o: usize = 0;
-    while c < k {
+    for c in 0..k {
         put_in(corners[o + n], n, c, k, heads, span, rows, corners, table);
         o += rows;
-        c += 1;
     }
 }
 
@@ -157,12 +156,10 @@ fn take_cell(
     requires { DropRoom i heads k span rows n corners.now table.old }
     ensures { LinksOf heads k span n (corner_gone heads i (cell 0 rows corners.now)) table.new }
 {
-    let mut c: usize = 0;
     let mut o: usize = 0;
-    while c < k {
+    for c in 0..k {
         take_out(corners[o + i], i, c, k, heads, span, rows, corners, table);
         o += rows;
-        c += 1;
     }
 }
 
@@ -171,10 +168,8 @@ fn raise(to: usize, len: usize, table: &mut [u16])
     requires { to + 1 + len ≤ length table.old }
     ensures { Shifted 0 to (to + 1) len table.old table.new }
 {
-    let mut i: usize = 0;
-    while i < len {
+    for i in 0..len {
         table[to + i] = table[to + 1 + i];
-        i += 1;
     }
 }
 
@@ -183,12 +178,10 @@ fn raise_links(i: usize, n: usize, k: usize, heads: usize, span: usize, table: &
     requires { RaiseRoom i heads k span n (length table.old) }
     ensures { LinksRaised i heads k span n table.old table.new }
 {
-    let mut c: usize = 0;
     let mut o = heads;
-    while c < k {
+    for c in 0..k {
         raise(o + i, n - 1 - i, table);
         o += span;
-        c += 1;
     }
 }
 
@@ -203,10 +196,8 @@ fn less_one(own: u16, y: u16) -> u16
 fn lower(own: u16, table: &mut [u16])
     ensures { NumbersLowered own table.old table.new }
 {
-    let mut x: usize = 0;
-    while x < table.len() {
+    for x in 0..table.len() {
         table[x] = less_one(own, table[x]);
-        x += 1;
     }
 }
 

@@ -33,6 +33,7 @@ pub fn fan_linked(
     let rows = least(least(numbers.len(), measures.len()), verts.len() / 3);
     let mut r: usize = 0;
     let mut at = links::first_at(v, table);
+    // A chain: each place tells the next, so there is no range to go over.
     while at > 0 {
         let i = at - 1;
         if r < rows {
@@ -68,6 +69,7 @@ pub fn straps_linked(
     let rows = least(least(numbers.len(), measures.len()), verts.len() / 2);
     let mut r: usize = 0;
     let mut at = links::first_at(v, table);
+    // A chain: each place tells the next, so there is no range to go over.
     while at > 0 {
         let i = at - 1;
         if ends[2 * c + i] == 1 {

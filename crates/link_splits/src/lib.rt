@@ -25,9 +25,7 @@ pub fn split_links(
         (cell 0 rows corners.now)) table.new }
 {
     table[v] = 0;
-    let mut i = numbers.len();
-    while i > 0 {
-        i -= 1;
+    for i in (0..numbers.len()).rev() {
         let e = numbers[i];
         let w = mesh::rows::copy_for(v, before, groups[i]);
         let c = links::corner_at(v, e, k, rows, corners);

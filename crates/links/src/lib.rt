@@ -35,16 +35,14 @@ fn link_cell(
     ensures { CellLinked heads k span i (cell 0 rows corners.now) table.old table.new }
 {
     let own = (i + 1) as u16;
-    let mut c: usize = 0;
     let mut o: usize = 0;
     let mut l: usize = 0;
-    while c < k {
+    for c in 0..k {
         let w = corners[o + i];
         table[heads + (l + i)] = table[w];
         table[w] = own;
         o += rows;
         l += span;
-        c += 1;
     }
 }
 
@@ -61,9 +59,7 @@ pub fn build_links(
     requires { BuildRoom heads k span rows n corners.now (length table.old) × Cleared table.old }
     ensures { LinksOf heads k span n (cell 0 rows corners.now) table.new }
 {
-    let mut i = n;
-    while i > 0 {
-        i -= 1;
+    for i in (0..n).rev() {
         link_cell(i, k, heads, span, rows, corners, table);
     }
 }
@@ -127,6 +123,7 @@ pub fn corner_at(v: usize, i: usize, k: usize, rows: usize, corners: &[usize]) -
 {
     let mut c: usize = 0;
     let mut q: usize = i;
+    // The last column is not read, and `0..k - 1` would have to be shown to exist.
     while c + 1 < k {
         if corners[q] == v {
             return c;
@@ -180,6 +177,7 @@ pub fn cells_at(
 {
     let mut r: usize = 0;
     let mut at = first_at(v, table);
+    // A chain: each place tells the next, so there is no range to go over.
     while at > 0 {
         let i = at - 1;
         list[r] = i;

@@ -124,10 +124,9 @@ pub fn mark_candidates(
     requires { CandidateRoom t corners.now (length points.now) }
     ensures { CandidatesMarked (blade_by rule b0 b1) t points.now corners.now marks.new }
 {
-    columns::clear_usize(0, marks);
+    columns::clear(0, marks);
     let size = corners.len() / mesh::CORNER_COLUMNS;
-    let mut i: usize = 0;
-    while i < t {
+    for i in 0..t {
         let second = size + i;
         let third = 2 * size + i;
         mark_sides(
@@ -140,7 +139,6 @@ pub fn mark_candidates(
             points,
             marks,
         );
-        i += 1;
     }
 }
 
@@ -149,15 +147,13 @@ pub fn mark_near(l: usize, log: &[u32], near: &mut [usize])
     requires { l ≤ length log.now / entry_words }
     ensures { NearMarked l log.now near.new }
 {
-    columns::clear_usize(0, near);
-    let mut i: usize = 0;
-    while i < l {
+    columns::clear(0, near);
+    for i in 0..l {
         let at = 6 * i;
         if log[at] == 1 {
             mark(log[at + 1] as usize, near);
             mark(log[at + 2] as usize, near);
         }
-        i += 1;
     }
 }
 
@@ -166,13 +162,11 @@ pub fn any_split(l: usize, log: &[u32]) -> bool
     requires { l ≤ length log.now / entry_words }
     ensures { SplitFound l log.now result }
 {
-    let mut i: usize = 0;
-    while i < l {
+    for i in 0..l {
         let at = 6 * i;
         if log[at] == 1 {
             return true;
         }
-        i += 1;
     }
     false
 }
@@ -208,13 +202,11 @@ pub fn mark_pinched(t: usize, corners: &[usize], near: &[usize], marks: &mut [us
     requires { PinchedRoom t corners.now (length near.now) }
     ensures { PinchedMarked t corners.now near.now marks.new }
 {
-    columns::clear_usize(0, marks);
+    columns::clear(0, marks);
     let size = corners.len() / mesh::CORNER_COLUMNS;
-    let mut i: usize = 0;
-    while i < t {
+    for i in 0..t {
         let second = size + i;
         let third = 2 * size + i;
         mark_three(corners[i], corners[second], corners[third], near, marks);
-        i += 1;
     }
 }

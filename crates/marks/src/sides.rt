@@ -76,14 +76,12 @@ fn rounded_sides(
 {
     let k = elements::corners_per(kind);
     let kept = kept_side(b0, b1, v, k, n, verts, points);
-    let mut i: usize = 0;
     let mut at: usize = 0;
-    while i < n {
+    for i in 0..n {
         let end = at + k;
         let left = left_of(b0, b1, &verts[at..end], points);
         sides[i] = side_of(kept, left);
         at = end;
-        i += 1;
     }
 }
 
@@ -118,16 +116,14 @@ fn kept_sign(b0: Point, b1: Point, v: usize, n: usize, verts: &[usize], points: 
     if !on_line(own) {
         return own;
     }
-    let mut i: usize = 0;
     let mut at: usize = 0;
-    while i < n {
+    for i in 0..n {
         let end = at + 3;
         let s = row_sign(b0, b1, &verts[at..end], points);
         if !on_line(s) {
             return s;
         }
         at = end;
-        i += 1;
     }
     Sign::On
 }
@@ -153,14 +149,12 @@ fn sign_sides(
     ensures { SidesBy Triangles (blade_by Signs b0 b1) v n verts.now points.now sides.new }
 {
     let kept = kept_sign(b0, b1, v, n, verts, points);
-    let mut i: usize = 0;
     let mut at: usize = 0;
-    while i < n {
+    for i in 0..n {
         let end = at + 3;
         let s = row_sign(b0, b1, &verts[at..end], points);
         sides[i] = side_of_sign(kept, s);
         at = end;
-        i += 1;
     }
 }
 

@@ -1,6 +1,7 @@
 -- What the program prints, and the sheet that it writes (docs/RULES.md, R22). Definitions only.
 use Rattle.std.specs.Prelude.{◌≡◌, Bool, true, false, List, ℕ, take}
 use Rattle.bits.specs.Bits.{bits_of}
+use Rattle.mesh.specs.Refused.{number_of}
 use Rattle.listing.specs.Listing.{refused_bytes}
 use Rattle.mending.specs.Sheets.{Mending, mended, refused, mend_of}
 use Rattle.mender.specs.Answers.{bytes_of}
@@ -9,7 +10,7 @@ use Rattle.mend.specs.declared.Ends.{Ends}
 -- what is printed: a line for each drop, or the one line `refused N`
 unfoldable pub printed : Mending → List ℕ
 printed (mended m t) = t
-printed (refused n) = refused_bytes n
+printed (refused e) = refused_bytes (number_of e)
 
 -- is there a sheet to write
 unfoldable pub is_mended : Mending → Bool

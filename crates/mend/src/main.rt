@@ -5,8 +5,7 @@ ghost use Rattle.std.specs.Prelude.{◌≡◌, ◌≤◌, length};
 ghost use Rattle.io.specs.Counts.{IsPrefixLen};
 ghost use Rattle.mend.specs.Printing.{Printed};
 
-use listing::Written;
-use mender::Mended;
+use mender::MendError;
 use std::env::FillError;
 use std::fs::OpenOptions;
 use std::io;
@@ -29,31 +28,33 @@ fn mend_all(broken: &[u8], mended: &mut [u8], text: &mut [u8]) -> Ends
 {
     let told = mender::mend_sheet(broken, mended, text);
     match told {
-        Mended::Bytes(n, k) => Ends {
+        Ok(k) => Ends {
             whole: true,
-            sheet: n,
-            text: k,
+            sheet: k.sheet,
+            text: k.text,
         },
-        Mended::Short => Ends {
-            whole: false,
-            sheet: 0,
-            text: 0,
-        },
-        Mended::Refused(code) => {
-            let line = listing::write_refused(code, text);
-            match line {
-                Written::Bytes(k) => Ends {
-                    whole: false,
-                    sheet: 0,
-                    text: k,
-                },
-                Written::Short => Ends {
-                    whole: false,
-                    sheet: 0,
-                    text: 0,
-                },
+        Err(why) => match why {
+            MendError::Short => Ends {
+                whole: false,
+                sheet: 0,
+                text: 0,
+            },
+            MendError::Refused(e) => {
+                let line = listing::write_refused(e.number(), text);
+                match line {
+                    Some(k) => Ends {
+                        whole: false,
+                        sheet: 0,
+                        text: k,
+                    },
+                    None => Ends {
+                        whole: false,
+                        sheet: 0,
+                        text: 0,
+                    },
+                }
             }
-        }
+        },
     }
 }
 

@@ -14,9 +14,13 @@ use Rattle.image.specs.Words.{written}
 use Rattle.model.specs.Reads.{refused as no}
 use Rattle.replies.specs.Reply.{Replied}
 use Rattle.mending.specs.Sheets.{Mending, mended, refused, mend_of}
-use Rattle.mender.specs.Answers.{fits, answer_for, bytes_of, text_of, MendDone}
+use Rattle.mender.specs.Answers.{fits, answer_for, bytes_of, text_of, mended_with, MendDone}
+use Rattle.std.specs.Prelude.{Result, Err}
+use Rattle.mesh.specs.Refused.{number_of}
+use Rattle.mesh.specs.declared.refusals.Refusal.{Refusal}
 use Rattle.mender.specs.declared.Mended.{Mended}
-use Rattle.mender.specs.declared.Mended.TheVariants.{Bytes, Short, Refused}
+use Rattle.mender.specs.declared.MendError.{MendError}
+use Rattle.mender.specs.declared.MendError.TheVariants.{Short, Refused}
 use Rattle.mender.proofs.Done.{padded_none}
 use Rattle.mender.proofs.Ends.{tell, refused_tell, small_code}
 use Rattle.mend_c.specs.Mends.{all_fit, code_for, MendReplied}
@@ -43,7 +47,7 @@ module _ (s : List ℕ) (a b c r : ℕ) (out said counts : List ℕ) where
       }
 
 -- the counts have no room
-pub few_counts : (s : List ℕ) (a b c : ℕ) (out said out' said' counts' : List ℕ) (R : Mended) (n k : ℕ) → MendDone s a b out said R → R ≡ Bytes n k → c < 8 → bits_of out' ≡ replicate (8 * a) 0 → said' ≡ replicate b 0 → counts' ≡ written c [] → MendReplied s a b c 4 out' said' counts'
+pub few_counts : (s : List ℕ) (a b c : ℕ) (out said out' said' counts' : List ℕ) (R : Result Mended MendError) (n k : ℕ) → MendDone s a b out said R → R ≡ mended_with n k → c < 8 → bits_of out' ≡ replicate (8 * a) 0 → said' ≡ replicate b 0 → counts' ≡ written c [] → MendReplied s a b c 4 out' said' counts'
 few_counts s a b c out said out' said' counts' R n k d e h o p w =
     let M = mend_of s in
     let t = tell M a b n k (sym e ∙ d.answer) in
@@ -51,7 +55,7 @@ few_counts s a b c out said out' said' counts' R n k d e h o p w =
     none s a b c 4 out' said' counts' (code_whole M a b c t.is ∙ ap (λ (x : Bool). pick x 0 4) f) f o p w
 
 -- all have
-pub all_told : (s : List ℕ) (a b c : ℕ) (out said counts' : List ℕ) (R : Mended) (n k : ℕ) → MendDone s a b out said R → R ≡ Bytes n k → 8 ≤ c → counts' ≡ written c (n ∷ k ∷ []) → MendReplied s a b c 0 out said counts'
+pub all_told : (s : List ℕ) (a b c : ℕ) (out said counts' : List ℕ) (R : Result Mended MendError) (n k : ℕ) → MendDone s a b out said R → R ≡ mended_with n k → 8 ≤ c → counts' ≡ written c (n ∷ k ∷ []) → MendReplied s a b c 0 out said counts'
 all_told s a b c out said counts' R n k d e h w =
     let M = mend_of s in
     let t = tell M a b n k (sym e ∙ d.answer) in
@@ -66,23 +70,23 @@ all_told s a b c out said counts' R n k d e h w =
     }
 
 -- the sheet or the text has no room
-short_tells : (M : Mending) (a b : ℕ) → Short ≡ answer_for M a b → (fits M a b ≡ false) × (M ≡ mended (bytes_of M) (text_of M))
+short_tells : (M : Mending) (a b : ℕ) → Err Short ≡ answer_for M a b → (fits M a b ≡ false) × (M ≡ mended (bytes_of M) (text_of M))
 unfolding answer_for fits bytes_of text_of
 short_tells (mended m t) a b e = by (leb (length m) a && leb (length t) b) e
   where
-    by : (x : Bool) → Short ≡ pick x (Bytes (length m) (length t)) Short → (x ≡ false) × (mended m t ≡ mended m t)
+    by : (x : Bool) → Err Short ≡ pick x (mended_with (length m) (length t)) (Err Short) → (x ≡ false) × (mended m t ≡ mended m t)
     by true e = absurd (let z : ◌≡◌ {A = ℕ} 0 1 = cc in omega arith)
     by false e = (refl, refl)
 short_tells (refused n) a b e = absurd (let z : ◌≡◌ {A = ℕ} 0 1 = cc in omega arith)
 
-hidden : (s : List ℕ) (a b : ℕ) (out said : List ℕ) (R : Mended) → MendDone s a b out said R → fits (mend_of s) a b ≡ false → (bits_of out ≡ replicate (8 * a) 0) × (said ≡ replicate b 0)
+hidden : (s : List ℕ) (a b : ℕ) (out said : List ℕ) (R : Result Mended MendError) → MendDone s a b out said R → fits (mend_of s) a b ≡ false → (bits_of out ≡ replicate (8 * a) 0) × (said ≡ replicate b 0)
 hidden s a b out said R d f =
     let M = mend_of s in (
       d.bits ∙ (ap (λ (x : Bool). padded (8 * a) 0 (bits_of (pick x (bytes_of M) []))) f ∙ (ap (padded (8 * a) 0) bits_none ∙ padded_none (8 * a))),
       d.text ∙ (ap (λ (x : Bool). padded b 0 (pick x (text_of M) [])) f ∙ padded_none b),
     )
 
-pub few_bytes : (s : List ℕ) (a b c : ℕ) (out said counts' : List ℕ) (R : Mended) → MendDone s a b out said R → R ≡ Short → counts' ≡ written c [] → MendReplied s a b c 4 out said counts'
+pub few_bytes : (s : List ℕ) (a b c : ℕ) (out said counts' : List ℕ) (R : Result Mended MendError) → MendDone s a b out said R → R ≡ Err Short → counts' ≡ written c [] → MendReplied s a b c 4 out said counts'
 few_bytes s a b c out said counts' R d e w =
     let M = mend_of s in
     let t = short_tells M a b (sym e ∙ d.answer) in
@@ -91,18 +95,18 @@ few_bytes s a b c out said counts' R d e w =
     none s a b c 4 out said counts' (code_whole M a b c t.1 ∙ ap (λ (x : Bool). pick x 0 4) f) f h.0 h.1 w
 
 -- a refusal
-code_refused : (n a b c : ℕ) → code_for (refused n) a b c ≡ n
+code_refused : (n : Refusal) (a b c : ℕ) → code_for (refused n) a b c ≡ number_of n
 unfolding code_for
 code_refused n a b c = refl
 
-fits_refused : (n a b : ℕ) → fits (refused n) a b ≡ false
+fits_refused : (n : Refusal) (a b : ℕ) → fits (refused n) a b ≡ false
 unfolding fits
 fits_refused n a b = refl
 
-pub refused_small : (s : List ℕ) (a b : ℕ) (out said : List ℕ) (R : Mended) (n : ℕ) → MendDone s a b out said R → R ≡ Refused n → n < 256
+pub refused_small : (s : List ℕ) (a b : ℕ) (out said : List ℕ) (R : Result Mended MendError) (n : Refusal) → MendDone s a b out said R → R ≡ Err (Refused n) → number_of n < 256
 refused_small s a b out said R n d e = let q = small_code s n (refused_tell (mend_of s) a b n (sym e ∙ d.answer)) in omega arith
 
-pub refused_told : (s : List ℕ) (a b c : ℕ) (out said counts' : List ℕ) (R : Mended) (n r : ℕ) → MendDone s a b out said R → R ≡ Refused n → Replied (no n) c r counts' → MendReplied s a b c r out said counts'
+pub refused_told : (s : List ℕ) (a b c : ℕ) (out said counts' : List ℕ) (R : Result Mended MendError) (n : Refusal) (r : ℕ) → MendDone s a b out said R → R ≡ Err (Refused n) → Replied (no (number_of n)) c r counts' → MendReplied s a b c r out said counts'
 refused_told s a b c out said counts' R n r d e w =
     let M = mend_of s in
     let i : M ≡ refused n = refused_tell M a b n (sym e ∙ d.answer) in

@@ -3,6 +3,7 @@ use Rattle.std.specs.Prelude.{ℕ, ◌*◌, ◌≡◌, Bool, ◌&&◌, List, [],
 use Rattle.lists.specs.Lists.{pick, padded}
 use Rattle.bits.specs.Bits.{bits_of}
 use Rattle.image.specs.Words.{written}
+use Rattle.mesh.specs.Refused.{number_of}
 use Rattle.mending.specs.Sheets.{Mending, mended, refused, mend_of}
 use Rattle.mender.specs.Answers.{fits, bytes_of, text_of}
 
@@ -12,7 +13,7 @@ all_fit M a b c = fits M a b && leb 8 c
 
 -- the number of the refusal, 4 where lent bytes are too few, else 0
 unfoldable pub code_for : Mending → ℕ → ℕ → ℕ → ℕ
-code_for (refused n) a b c = n
+code_for (refused e) a b c = number_of e
 code_for (mended m t) a b c = pick (all_fit (mended m t) a b c) 0 4
 
 -- the mended sheet (the bits of every byte), the text and the two numbers of bytes, with 0 behind each; or 0 alone

@@ -4,8 +4,8 @@
 ghost use Rattle.std.specs.Prelude.{length};
 ghost use Rattle.mend_c.specs.Mends.{MendReplied};
 
-use listing::Written;
-use mender::Mended;
+use mender::MendError;
+use mesh::refusals::Refusal;
 
 // Mends a broken sheet: 0, with the numbers of bytes of the mended sheet and of the text as two words; or a refusal's number, with every lent byte 0.
 pub fn mend(broken: &[u8], mended: &mut [u8], text: &mut [u8], counts: &mut [u8]) -> u32
@@ -14,20 +14,18 @@ pub fn mend(broken: &[u8], mended: &mut [u8], text: &mut [u8], counts: &mut [u8]
 {
     let told = mender::mend_sheet(broken, mended, text);
     match told {
-        Mended::Bytes(n, k) => {
+        Ok(k) => {
             if counts.len() < 8 {
                 bits::blank(mended);
-                listing::finish(text, Written::Short);
-                image_writing::clear_bytes(counts);
-                return 4;
+                listing::finish(text, None);
+                return replies::reply_refused(Refusal::Argument.number(), counts);
             }
-            image_writing::write_two(counts, n, k);
+            image_writing::write_two(counts, k.sheet, k.text);
             0
         }
-        Mended::Short => {
-            image_writing::clear_bytes(counts);
-            4
-        }
-        Mended::Refused(code) => replies::reply_refused(code, counts),
+        Err(why) => match why {
+            MendError::Short => replies::reply_refused(Refusal::Argument.number(), counts),
+            MendError::Refused(e) => replies::reply_refused(e.number(), counts),
+        },
     }
 }

@@ -13,23 +13,31 @@ use Rattle.bits.specs.Bits.{bits_of}
 use Rattle.sheet.specs.Sheet.{counts_at, too_many_of}
 use Rattle.edition.specs.Edition.{second, bits_in_of, bytes_in, typed_of}
 use Rattle.mending.specs.Sheets.{Mending, mended, refused, mended_sheet, sheet_bytes, said_of, mend_with, mend_of}
-use Rattle.mender.specs.Answers.{fits, answer_for, bytes_of, text_of}
+use Rattle.mender.specs.Answers.{fits, answer_for, bytes_of, text_of, mended_with}
+use Rattle.std.specs.Prelude.{Result, Err}
+use Rattle.mesh.specs.Refused.{number_of}
+use Rattle.mesh.specs.declared.refusals.Refusal.{Refusal}
+use Rattle.mesh.specs.declared.refusals.Refusal.TheVariants.{Size, Sheet}
 use Rattle.mender.specs.declared.Mended.{Mended}
-use Rattle.mender.specs.declared.Mended.TheVariants.{Bytes, Short, Refused}
+use Rattle.mender.specs.declared.MendError.{MendError}
+use Rattle.mender.specs.declared.MendError.TheVariants.{Short, Refused}
 
 pub padded_front : (n : ℕ) (x : List ℕ) → take (length x) (padded {A = ℕ} n 0 x) ≡ x
 unfolding padded
 padded_front n x = take_at x (replicate (n - length x) 0) (length x) refl
 
-never : (M : Mended) (n k : ℕ) → Bytes n k ≡ M → M ≡ Short → ⊥
+never : (M : Result Mended MendError) (n k : ℕ) → mended_with n k ≡ M → M ≡ Err Short → ⊥
 never M n k e f = let z : ◌≡◌ {A = ℕ} 0 1 = cc in omega arith
 
 -- what an answer with numbers tells
-tell_by : (x y : Bool) (m t : List ℕ) (a b n k : ℕ) → leb (length m) a ≡ x → leb (length t) b ≡ y → Bytes n k ≡ pick (x && y) (Bytes (length m) (length t)) Short
+same_numbers : (n k m t : ℕ) → mended_with n k ≡ mended_with m t → (n ≡ m) × (k ≡ t)
+same_numbers n k m t e = let q : ◌≡◌ {A = Mended} (record { sheet = n; text = k }) (record { sheet = m; text = t }) = cc in (ap (λ (x : Mended). x.sheet) q, ap (λ (x : Mended). x.text) q)
+
+tell_by : (x y : Bool) (m t : List ℕ) (a b n k : ℕ) → leb (length m) a ≡ x → leb (length t) b ≡ y → mended_with n k ≡ pick (x && y) (mended_with (length m) (length t)) (Err Short)
     → ((x && y) ≡ true) × (n ≡ length m) × (k ≡ length t) × (n ≤ a) × (k ≤ b)
-tell_by true true m t a b n k p q e = let i : n ≡ length m = cc in let j : k ≡ length t = cc in (refl, i, j, omega (arith, leb-true (length m) a p), omega (arith, leb-true (length t) b q))
-tell_by true false m t a b n k p q e = absurd (never Short n k e refl)
-tell_by false y m t a b n k p q e = absurd (never Short n k e refl)
+tell_by true true m t a b n k p q e = let s = same_numbers n k (length m) (length t) e in let i : n ≡ length m = s.0 in let j : k ≡ length t = s.1 in (refl, i, j, omega (arith, leb-true (length m) a p), omega (arith, leb-true (length t) b q))
+tell_by true false m t a b n k p q e = absurd (never (Err Short) n k e refl)
+tell_by false y m t a b n k p q e = absurd (never (Err Short) n k e refl)
 
 pub record Telling (M : Mending) (a b n k : ℕ) : Type 0 where
   pub fit : fits M a b ≡ true
@@ -39,7 +47,7 @@ pub record Telling (M : Mending) (a b n k : ℕ) : Type 0 where
   pub room_text : k ≤ b
   pub is : M ≡ mended (bytes_of M) (text_of M)
 
-pub tell : (M : Mending) (a b n k : ℕ) → Bytes n k ≡ answer_for M a b → Telling M a b n k
+pub tell : (M : Mending) (a b n k : ℕ) → mended_with n k ≡ answer_for M a b → Telling M a b n k
 unfolding fits answer_for bytes_of text_of
 tell (mended m t) a b n k e =
     let w = tell_by (leb (length m) a) (leb (length t) b) m t a b n k refl refl e in
@@ -48,22 +56,22 @@ tell (refused c) a b n k e = absurd (let z : ◌≡◌ {A = ℕ} 0 1 = cc in ome
 
 -- ---- a refusal
 
-refused_by : (x : Bool) (m t : List ℕ) (n : ℕ) → Refused n ≡ pick x (Bytes (length m) (length t)) Short → ⊥
+refused_by : (x : Bool) (m t : List ℕ) (n : Refusal) → Err (Refused n) ≡ pick x (mended_with (length m) (length t)) (Err Short) → ⊥
 refused_by true m t n e = let z : ◌≡◌ {A = ℕ} 0 1 = cc in omega arith
 refused_by false m t n e = let z : ◌≡◌ {A = ℕ} 0 1 = cc in omega arith
 
-pub refused_tell : (M : Mending) (a b n : ℕ) → Refused n ≡ answer_for M a b → M ≡ refused n
+pub refused_tell : (M : Mending) (a b : ℕ) (n : Refusal) → Err (Refused n) ≡ answer_for M a b → M ≡ refused n
 unfolding answer_for
 refused_tell (mended m t) a b n e = absurd (refused_by (leb (length m) a && leb (length t) b) m t n e)
 refused_tell (refused c) a b n e = let i : n ≡ c = cc in ap refused (sym i)
 
-small_by : (a b x : Bool) (m t : List ℕ) (n : ℕ) → cond a (refused 9) (cond b (refused 1) (cond x (mended m t) (refused 9))) ≡ refused n → n < 10
-small_by true b x m t n e = let i : 9 ≡ n = cc in omega arith
-small_by false true x m t n e = let i : 1 ≡ n = cc in omega arith
+small_by : (a b x : Bool) (m t : List ℕ) (n : Refusal) → cond a (refused Sheet) (cond b (refused Size) (cond x (mended m t) (refused Sheet))) ≡ refused n → number_of n < 10
+small_by true b x m t n e = let i : Sheet ≡ n = cc in omega (arith, ap number_of i)
+small_by false true x m t n e = let i : Size ≡ n = cc in omega (arith, ap number_of i)
 small_by false false true m t n e = absurd (let z : ◌≡◌ {A = ℕ} 0 1 = cc in omega arith)
-small_by false false false m t n e = let i : 9 ≡ n = cc in omega arith
+small_by false false false m t n e = let i : Sheet ≡ n = cc in omega (arith, ap number_of i)
 
-pub small_code : (s : List ℕ) (n : ℕ) → mend_of s ≡ refused n → n < 10
+pub small_code : (s : List ℕ) (n : Refusal) → mend_of s ≡ refused n → number_of n < 10
 unfolding mend_of mend_with
 small_code s n e =
     let l = bits_of s in

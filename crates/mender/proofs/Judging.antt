@@ -10,18 +10,19 @@ use Rattle.bits.specs.Bits.{bits_of}
 use Rattle.sheet.specs.Sheet.{counts_at, too_many_of}
 use Rattle.sheet.specs.declared.Counts.{Counts}
 use Rattle.edition.specs.Edition.{second, bits_in_of, bytes_in}
-use Rattle.mending.specs.Sheets.{mend_with, mend_of}
+use Rattle.std.specs.Prelude.{Ok, Err}
+use Rattle.mesh.specs.declared.refusals.Refusal.{Refusal}
+use Rattle.mesh.specs.declared.refusals.Refusal.TheVariants.{Size, Sheet}
+use Rattle.mending.specs.Sheets.{refused, mend_with, mend_of}
 use Rattle.mender.specs.Work.{Judged}
 
-nine : ◌≡◌ {A = ℕ} 9 0 → ⊥
-nine e = omega (arith, e)
+-- bytes that are refused
+judged_no : (s : List ℕ) (e : Refusal) → mend_of s ≡ refused e → Judged s (Err e)
+judged_no s e h = record { yes = λ u q. absurd (let z : ◌≡◌ {A = ℕ} 0 1 = cc in omega arith); no = λ d q. let i : e ≡ d = cc in h ∙ ap refused i }
 
-one : ◌≡◌ {A = ℕ} 1 0 → ⊥
-one e = omega (arith, e)
-
-pub judge_short : (s : List ℕ) → length s < 6 → Judged s 9
+pub judge_short : (s : List ℕ) → length s < 6 → Judged s (Err Sheet)
 unfolding mend_of
-judge_short s h = record { yes = λ e. absurd (nine e); no = λ z. rw (lt-ltb (length s) 6 h) }
+judge_short s h = judged_no s Sheet (rw (lt-ltb (length s) 6 h))
 
 twice : (x : Bool) → (x || x) ≡ x
 twice true = refl
@@ -31,17 +32,17 @@ module _ (s : List ℕ) (c : Counts) (six : 6 ≤ length s) (is : c ≡ counts_a
   few : (b : Bool) → (too_many_of c || too_many_of c) ≡ b → too_many_of (counts_at (bits_in_of (bits_of s))) ≡ b
   few b e = ap too_many_of (sym is) ∙ (sym (twice (too_many_of c)) ∙ e)
 
-  pub judge_many : (too_many_of c || too_many_of c) ≡ true → Judged s 1
+  pub judge_many : (too_many_of c || too_many_of c) ≡ true → Judged s (Err Size)
   unfolding mend_of mend_with
-  judge_many e = record { yes = λ z. absurd (one z); no = λ z. rw (le-ltb (length s) 6 six, few true e) }
+  judge_many e = judged_no s Size (rw (le-ltb (length s) 6 six, few true e))
 
   module _ (t : Bool) (n : ℕ) (e : (too_many_of c || too_many_of c) ≡ false) (two : t ≡ second (bits_of s)) (long : n ≡ bytes_in t c) where
     whole : n ≡ bytes_in (second (bits_of s)) (counts_at (bits_in_of (bits_of s)))
     whole = long ∙ ap₂ bytes_in two is
 
-    pub judge_right : length s ≡ n → Judged s 0
-    judge_right h = record { yes = λ z. record { few = few false e; long = h ∙ whole }; no = λ z. absurd (z refl) }
+    pub judge_right : length s ≡ n → Judged s (Ok tt)
+    judge_right h = record { yes = λ u z. record { few = few false e; long = h ∙ whole }; no = λ d q. absurd (let z : ◌≡◌ {A = ℕ} 0 1 = cc in omega arith) }
 
-    pub judge_long : (length s ≡ n → ⊥) → Judged s 9
+    pub judge_long : (length s ≡ n → ⊥) → Judged s (Err Sheet)
     unfolding mend_of mend_with
-    judge_long h = record { yes = λ z. absurd (nine z); no = λ z. rw (le-ltb (length s) 6 six, few false e, ne_eqb (length s) (bytes_in (second (bits_of s)) (counts_at (bits_in_of (bits_of s)))) (λ x. h (x ∙ sym whole))) }
+    judge_long h = judged_no s Sheet (rw (le-ltb (length s) 6 six, few false e, ne_eqb (length s) (bytes_in (second (bits_of s)) (counts_at (bits_in_of (bits_of s)))) (λ x. h (x ∙ sym whole))))

@@ -19,9 +19,11 @@ use Rattle.mending.specs.Mending.{Why, absent, twice, double, Drop}
 use Rattle.mending.specs.Sheets.{Mending, mended, refused, mended_sheet, sheet_bytes, drop_line, why_word, triangle_word, boundary_word, said_of, mend_of}
 use Rattle.mending.specs.Work.{cause_by, double_by, said_by, codes_of, boundary_from}
 use Rattle.mending.proofs.Bytes.{answered, sheet_length, typed_is}
-use Rattle.mender.specs.Answers.{answer_for, MendDone}
+use Rattle.mender.specs.Answers.{answer_for, mended_with, MendDone}
+use Rattle.std.specs.Prelude.{Result, Err}
 use Rattle.mender.specs.declared.Mended.{Mended}
-use Rattle.mender.specs.declared.Mended.TheVariants.{Bytes, Short}
+use Rattle.mender.specs.declared.MendError.{MendError}
+use Rattle.mender.specs.declared.MendError.TheVariants.{Short}
 use Rattle.mender.specs.Work.{Marked}
 use Rattle.mender.proofs.Whole.{few_held, few_out, many, long_t, long_e, long_b, marked_said}
 
@@ -124,16 +126,16 @@ mended_short s m t e =
     (omega arith, omega arith)
 
 -- enough: such rooms are never too few
-fits_all : (M : Mending) (a b : ℕ) → ((m t : List ℕ) → M ≡ mended m t → (length m ≤ a) × (length t ≤ b)) → Short ≡ answer_for M a b → ⊥
+fits_all : (M : Mending) (a b : ℕ) → ((m t : List ℕ) → M ≡ mended m t → (length m ≤ a) × (length t ≤ b)) → Err Short ≡ answer_for M a b → ⊥
 unfolding answer_for
 fits_all (mended m t) a b h e =
     let q = h m t refl in
     let f : leb (length m) a ≡ true = le-leb (length m) a q.0 in
     let g : leb (length t) b ≡ true = le-leb (length t) b q.1 in
-    let z : Short ≡ Bytes (length m) (length t) = rw (f, g) at e in
+    let z : Err Short ≡ mended_with (length m) (length t) = rw (f, g) at e in
     absurd (let y : ◌≡◌ {A = ℕ} 0 1 = cc in omega arith)
 fits_all (refused n) a b h e = absurd (let y : ◌≡◌ {A = ℕ} 0 1 = cc in omega arith)
 
-pub enough : (s : List ℕ) (a b : ℕ) (out said : List ℕ) (r : Mended) → 17292 ≤ a → 99328 ≤ b → MendDone s a b out said r → r ≡ Short → ⊥
+pub enough : (s : List ℕ) (a b : ℕ) (out said : List ℕ) (r : Result Mended MendError) → 17292 ≤ a → 99328 ≤ b → MendDone s a b out said r → r ≡ Err Short → ⊥
 enough s a b out said r h g d e =
     fits_all (mend_of s) a b (λ m t q. let w = mended_short s m t q in (omega (arith, w.0), omega (arith, w.1))) (sym e ∙ d.answer)

@@ -1,5 +1,5 @@
 -- What the workers ask and promise. Only the contracts between workers need this file. Definitions only.
-use Rattle.std.specs.Prelude.{ℕ, zero, suc, ◌+◌, ◌*◌, ◌^◌, ◌≤◌, ◌<◌, ◌≡◌, Bool, true, false, List, [], ◌∷◌, length, drop, replicate, eqb}
+use Rattle.std.specs.Prelude.{ℕ, zero, suc, ◌+◌, ◌*◌, ◌^◌, ◌≤◌, ◌<◌, ◌≡◌, Bool, true, false, List, [], ◌∷◌, length, drop, replicate, eqb, Result, Ok, Err}
 use Rattle.std.proofs.lemmas.List.Edits.{sets}
 use Rattle.lists.specs.Lists.{pick}
 use Rattle.bits.specs.Bits.{bits_of, field_at}
@@ -7,6 +7,7 @@ use Rattle.bits.specs.Rows.{unpack, pack, read_rows, write_rows}
 use Rattle.sheet.specs.Sheet.{counts_at, counts_of, header_w, header_of}
 use Rattle.sheet.specs.declared.Counts.{Counts}
 use Rattle.edition.specs.Edition.{second, bits_in_of, bytes_in, header2_w, typed_of}
+use Rattle.mesh.specs.declared.refusals.Refusal.{Refusal}
 use Rattle.mending.specs.Sheets.{mended_sheet, mend_of, refused}
 use Rattle.mending.specs.Work.{row_code, kept_by_of, zeros_of, codes_of, boundary_from, Mendable}
 
@@ -17,10 +18,10 @@ unfoldable pub codes_at : Bool → ℕ → List ℕ → ℕ → ℕ → ℕ → 
 codes_at three p l at step zero = []
 codes_at three p l at step (suc n) = row_code three p (field_at l at 10) (field_at l (at + 10) 10) (field_at l (at + 20) 10) ∷ codes_at three p l (at + step) step n
 
--- 0 where they are mended, else the number of their refusal
-pub record Judged (s : List ℕ) (r : ℕ) : Type 0 where
-  pub yes : r ≡ 0 → Mendable s
-  pub no : (r ≡ 0 → ⊥) → mend_of s ≡ refused r
+-- they are mended, or why they are refused
+pub record Judged (s : List ℕ) (r : Result (Unit {0}) Refusal) : Type 0 where
+  pub yes : (u : Unit {0}) → r ≡ Ok u → Mendable s
+  pub no : (e : Refusal) → r ≡ Err e → mend_of s ≡ refused e
 
 -- n rows of `step` bits from bit `at` lie inside the bytes, with a blade behind them
 pub record MarkIn (s : List ℕ) (at step n : ℕ) : Type 0 where

@@ -8,6 +8,7 @@ ghost use Rattle.edition.specs.Edition.{bytes_in};
 ghost use Rattle.mending.specs.Work.{boundary_from};
 ghost use Rattle.mender.specs.Work.{codes_at, Judged, MarkIn, LentMarks, Marked};
 
+use mesh::refusals::Refusal;
 use sheet::Counts;
 
 // How many bytes a sheet of an edition has.
@@ -23,12 +24,12 @@ pub fn byte_len(second: bool, c: Counts) -> usize
     }
 }
 
-// 0 where bytes are mended, or the number of their refusal.
-pub fn refusal(s: &[u8]) -> usize
+// Whether bytes are mended, or why they are refused.
+pub fn refusal(s: &[u8]) -> Result<(), Refusal>
     ensures { Judged s.now result }
 {
     if s.len() < 6 {
-        return mesh::refusals::SHEET;
+        return Err(Refusal::Sheet);
     }
     let c = edition::typed::counts_in(s);
     let most = Counts {
@@ -38,12 +39,12 @@ pub fn refusal(s: &[u8]) -> usize
         boundary: mesh::BOUNDARY,
     };
     if sheet::refused_counts(most, c) {
-        return 1;
+        return Err(Refusal::Size);
     }
     if s.len() == byte_len(edition::typed::is_second(s), c) {
-        0
+        Ok(())
     } else {
-        9
+        Err(Refusal::Sheet)
     }
 }
 
@@ -53,14 +54,12 @@ fn mark_list(s: &[u8], at: usize, step: usize, three: bool, p: usize, mask: &mut
     ensures { mask.new ≡ codes_at three p (bits_of s.now) at step (length mask.old) }
 {
     let n = mask.len();
-    let mut i = 0;
     let mut pos = at;
-    while i < n {
+    for i in 0..n {
         let a = bits::field(s, pos, 10);
         let b = bits::field(s, pos + 10, 10);
         let c = bits::field(s, pos + 20, 10);
         mask[i] = mending::fate(three, p, a, b, c);
-        i += 1;
         pos += step;
     }
 }

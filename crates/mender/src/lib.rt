@@ -7,17 +7,23 @@ ghost use Rattle.mending.specs.Work.{Mendable};
 ghost use Rattle.mender.specs.Answers.{MendDone};
 ghost use Rattle.mender.specs.Work.{LentMarks, MendIn};
 
-use listing::Written;
+use mesh::refusals::Refusal;
 
 pub mod fates;
 pub mod write;
 
-// What mending answers: how many bytes the mended sheet and the text have, or that the lent bytes are too few for either, or the number of a refusal.
+// How many bytes the mended sheet and the text have.
 #[derive(Clone, Copy)]
-pub enum Mended {
-    Bytes(usize, usize),
+pub struct Mended {
+    pub sheet: usize,
+    pub text: usize,
+}
+
+// Why nothing is mended: the lent bytes are too few for the sheet or the text, or the bytes are refused.
+#[derive(Clone, Copy)]
+pub enum MendError {
     Short,
-    Refused(usize),
+    Refused(Refusal),
 }
 
 // Writes the mended sheet into bytes that are 0, and the text, by the fates of the three lists.
@@ -28,7 +34,7 @@ fn mend_marked(
     boundary: &[usize],
     mended: &mut [u8],
     text: &mut [u8],
-) -> Mended
+) -> Result<Mended, MendError>
     requires { MendIn s.now triangles.now edges.now boundary.now mended.old }
     ensures { MendDone s.now (length mended.old) (length text.old) mended.new
         text.new result }
@@ -42,16 +48,16 @@ fn mend_marked(
     };
     let n = crate::fates::byte_len(edition::typed::is_second(s), kept);
     if mended.len() < n {
-        listing::finish(text, Written::Short);
-        return Mended::Short;
+        listing::finish(text, None);
+        return Err(MendError::Short);
     }
     let told = mending::put_said(triangles, edges, boundary, text);
     match told {
-        Written::Bytes(k) => {
+        Some(k) => {
             crate::write::put_sheet(s, triangles, edges, boundary, mended);
-            Mended::Bytes(n, k)
+            Ok(Mended { sheet: n, text: k })
         }
-        Written::Short => Mended::Short,
+        None => Err(MendError::Short),
     }
 }
 
@@ -63,7 +69,7 @@ fn mend_lists(
     boundary: &mut [usize],
     mended: &mut [u8],
     text: &mut [u8],
-) -> Mended
+) -> Result<Mended, MendError>
     requires { LentMarks s.now (length triangles.old) (length edges.old) (length boundary.old) × (bits_of mended.old
         ≡ replicate (8 * length mended.old) 0) }
     ensures { MendDone s.now (length mended.old) (length text.old) mended.new
@@ -74,7 +80,7 @@ fn mend_lists(
 }
 
 // Mends bytes that are not refused, into bytes that are 0.
-fn mend_held(s: &[u8], mended: &mut [u8], text: &mut [u8]) -> Mended
+fn mend_held(s: &[u8], mended: &mut [u8], text: &mut [u8]) -> Result<Mended, MendError>
     requires { Mendable s.now × (bits_of mended.old ≡ replicate (8 * length mended.old) 0) }
     ensures { MendDone s.now (length mended.old) (length text.old) mended.new
         text.new result }
@@ -97,15 +103,17 @@ fn mend_held(s: &[u8], mended: &mut [u8], text: &mut [u8]) -> Mended
 }
 
 // Mends a broken sheet: the mended sheet and what is said, each with 0 behind it, or 0 in every lent byte.
-pub fn mend_sheet(s: &[u8], mended: &mut [u8], text: &mut [u8]) -> Mended
+pub fn mend_sheet(s: &[u8], mended: &mut [u8], text: &mut [u8]) -> Result<Mended, MendError>
     ensures { MendDone s.now (length mended.old) (length text.old) mended.new
         text.new result }
 {
     bits::blank(mended);
     let r = crate::fates::refusal(s);
-    if r != 0 {
-        listing::finish(text, Written::Short);
-        return Mended::Refused(r);
+    match r {
+        Ok(()) => mend_held(s, mended, text),
+        Err(e) => {
+            listing::finish(text, None);
+            Err(MendError::Refused(e))
+        }
     }
-    mend_held(s, mended, text)
 }

@@ -52,12 +52,10 @@ fn put_kept(
 {
     let n = mask.len();
     let step = w0 + w1 + w2;
-    let mut i: usize = 0;
     let mut from = at;
     let mut end = to;
-    while i < n {
+    for i in 0..n {
         end = put_one(s, from, w0, w1, w2, mask[i], out, end);
-        i += 1;
         from += step;
     }
     end

@@ -15,7 +15,9 @@ use Rattle.bits.proofs.Laws.{length_bits_of, num_lt, bits_num}
 use Rattle.bits.proofs.RowLaws.{AllBits, bits_append, bits_zeros, zeros_of, bits_bits_of, bits_drop, bits_take}
 use Rattle.sheet.specs.Sheet.{Sheet, FitSheet, most, sheet_bits, sheet_with, counts_of, counts_at, header_of, header_w, particle_w, triangle_w, edge_w, boundary_w, blade_w, end_of, too_many_of, names_ok, at_boundary}
 use Rattle.sheet.specs.declared.Counts.{Counts}
-use Rattle.sheet.specs.declared.Seen.TheVariants.{Whole}
+use Rattle.std.specs.Prelude.{Ok}
+use Rattle.mesh.specs.declared.refusals.Refusal.{Refusal}
+use Rattle.mesh.specs.declared.refusals.Refusal.TheVariants.{Size, Sheet as NoSheet}
 use Rattle.sheet.proofs.Trip.{same_counts, counts_read, read_of_write, write_of_read, length_sheet_bits}
 use Rattle.sheet.proofs.There.{num_zeros, limits}
 use Rattle.sheet.proofs.Back.{bits_of_inj}
@@ -206,7 +208,7 @@ module _ (t : Bool) (s : Sheet) (p : Plain t s) (f : FitSheet s) (few : too_many
   bytes_spare = ap (λ (u : Bool). field_at (bits_of (sheet_bytes t s)) (end_in u (counts_of s)) (8 * bytes_in u (counts_of s) - end_in u (counts_of s))) bytes_edition ∙ bytes_spare_by
 
   -- a sheet's bytes are whole before their outline is looked at
-  pub bytes_seen : names_ok s ≡ true → typed_seen most (sheet_bytes t s) ≡ Whole (counts_of s)
+  pub bytes_seen : names_ok s ≡ true → typed_seen most (sheet_bytes t s) ≡ Ok (counts_of s)
   unfolding typed_seen typed_with
   bytes_seen names =
       let c = counts_of s in
@@ -282,13 +284,13 @@ pub record Answered (s m t : List ℕ) : Type 0 where
   pub bytes : m ≡ sheet_bytes (edition_of s) (mended_sheet (sheet_with (typed_counts s) (bits_in_of (bits_of s))))
   pub said : t ≡ said_of (sheet_with (typed_counts s) (bits_in_of (bits_of s)))
 
-refused_never : (n : ℕ) (m t : List ℕ) → refused n ≡ mended m t → ⊥
+refused_never : (n : Refusal) (m t : List ℕ) → refused n ≡ mended m t → ⊥
 refused_never n m t e = let z : ◌≡◌ {A = ℕ} 0 1 = cc in omega arith
 
-answer_by : (a b x : Bool) (m t m' t' : List ℕ) → cond a (refused 9) (cond b (refused 1) (cond x (mended m t) (refused 9))) ≡ mended m' t' → (b ≡ false) × (x ≡ true) × (m' ≡ m) × (t' ≡ t)
-answer_by true b x m t m' t' e = absurd (refused_never 9 m' t' e)
-answer_by false true x m t m' t' e = absurd (refused_never 1 m' t' e)
-answer_by false false false m t m' t' e = absurd (refused_never 9 m' t' e)
+answer_by : (a b x : Bool) (m t m' t' : List ℕ) → cond a (refused NoSheet) (cond b (refused Size) (cond x (mended m t) (refused NoSheet))) ≡ mended m' t' → (b ≡ false) × (x ≡ true) × (m' ≡ m) × (t' ≡ t)
+answer_by true b x m t m' t' e = absurd (refused_never NoSheet m' t' e)
+answer_by false true x m t m' t' e = absurd (refused_never Size m' t' e)
+answer_by false false false m t m' t' e = absurd (refused_never NoSheet m' t' e)
 answer_by false false true m t m' t' e = (refl, refl, cc, cc)
 
 pub answered : (s m t : List ℕ) → mend_of s ≡ mended m t → Answered s m t
@@ -344,8 +346,8 @@ module _ (s m t : List ℕ) (e : mend_of s ≡ mended m t) where
   mended_means = mended_is
 
   -- mended-whole: with the limits of every mesh the mended bytes are whole before their outline is looked at
-  pub mended_whole : typed_seen most m ≡ Whole (counts_at (bits_in_of (bits_of m)))
-  mended_whole = ap (typed_seen most) bytes ∙ (bytes_seen (edition_of s) (mended_sheet broken) plain fit' few' (mended_names broken fit few) ∙ ap (λ (c : Counts). Whole c) (sym mended_counts))
+  pub mended_whole : typed_seen most m ≡ Ok (counts_at (bits_in_of (bits_of m)))
+  mended_whole = ap (typed_seen most) bytes ∙ (bytes_seen (edition_of s) (mended_sheet broken) plain fit' few' (mended_names broken fit few) ∙ ap (λ (c : Counts). Ok c) (sym mended_counts))
 
   -- no two of the mended boundary entries have the same ends
   pub mended_boundary_apart : apart [] (typed_of (bits_of m)).boundary ≡ true
@@ -415,12 +417,12 @@ module _ (s : List ℕ) (w : TypedIn s (counts_at (bits_in_of (bits_of s)))) whe
       held_mend s held ∙ (ap (λ (x : Sheet). mended (sheet_bytes (edition_of s) x) (said_of g)) o.0 ∙ (ap (λ (x : List ℕ). mended x (said_of g)) (own_bytes small) ∙ ap (mended s) o.1))
 
 -- same_bytes: bytes that are whole before their outline is looked at, with no two boundary entries of the same ends, are given back, and nothing is said
-pub same_bytes : (s : List ℕ) (c : Counts) → ((i : ℕ) → get_or s i 0 < 256) → typed_seen most s ≡ Whole c → apart [] (typed_of (bits_of s)).boundary ≡ true → mend_of s ≡ mended s []
+pub same_bytes : (s : List ℕ) (c : Counts) → ((i : ℕ) → get_or s i 0 < 256) → typed_seen most s ≡ Ok c → apart [] (typed_of (bits_of s)).boundary ≡ true → mend_of s ≡ mended s []
 unfolding typed_of
 same_bytes s c small e p =
     let w = typed_in most s c e in
     same_here s (subst (λ (x : Counts). TypedIn s x) (sym w.is) w) small p
 
 -- and only then
-pub same_bytes_only : (s t : List ℕ) → mend_of s ≡ mended s t → (typed_seen most s ≡ Whole (counts_at (bits_in_of (bits_of s)))) × (apart [] (typed_of (bits_of s)).boundary ≡ true)
+pub same_bytes_only : (s t : List ℕ) → mend_of s ≡ mended s t → (typed_seen most s ≡ Ok (counts_at (bits_in_of (bits_of s)))) × (apart [] (typed_of (bits_of s)).boundary ≡ true)
 same_bytes_only s t e = (mended_whole s s t e, mended_boundary_apart s s t e)

@@ -7,7 +7,8 @@ use Rattle.sheet.specs.declared.Counts.{Counts}
 use Rattle.edition.specs.Edition.{second, bits_in_of, sheet2_bits, bytes_in, typed_of}
 use Rattle.listing.specs.Listing.{spaced, edge_word}
 use Rattle.mending.specs.Mending.{Why, absent, twice, double, Drop, mended_rows, mended_boundary, drops_of, doubles_of}
-use Rattle.model.specs.Refusals.{size_refusal, sheet_refusal}
+use Rattle.mesh.specs.declared.refusals.Refusal.{Refusal}
+use Rattle.mesh.specs.declared.refusals.Refusal.TheVariants.{Size, Sheet as NoSheet}
 
 -- the mended sheet: the kept rows in their order, the same particles and blade
 unfoldable pub mended_sheet : Sheet → Sheet
@@ -65,12 +66,12 @@ said_of s =
 -- the mended bytes and what is said, or a refusal
 pub data Mending : Type 0 where
   mended : List ℕ → List ℕ → Mending
-  refused : ℕ → Mending
+  refused : Refusal → Mending
 
 -- of n bytes of an edition with counts c, whose fields are those of a sheet: counts 1, length 9; spare bits are not looked at, and the edition is kept
 unfoldable pub mend_with : Bool → Counts → ℕ → Sheet → Mending
-mend_with t c n b = cond (too_many_of c) (refused size_refusal) (cond (eqb n (bytes_in t c)) (mended (sheet_bytes t (mended_sheet b)) (said_of b)) (refused sheet_refusal))
+mend_with t c n b = cond (too_many_of c) (refused Size) (cond (eqb n (bytes_in t c)) (mended (sheet_bytes t (mended_sheet b)) (said_of b)) (refused NoSheet))
 
 -- of any bytes: a short header 9; then as above
 unfoldable pub mend_of : List ℕ → Mending
-mend_of s = cond (ltb (length s) 6) (refused sheet_refusal) (mend_with (second (bits_of s)) (counts_at (bits_in_of (bits_of s))) (length s) (typed_of (bits_of s)))
+mend_of s = cond (ltb (length s) 6) (refused NoSheet) (mend_with (second (bits_of s)) (counts_at (bits_in_of (bits_of s))) (length s) (typed_of (bits_of s)))

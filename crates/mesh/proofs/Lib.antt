@@ -4,3 +4,4 @@ pub mod Lists
 pub mod Fan
 pub mod Blocks
 pub mod Agree
+pub mod Refused

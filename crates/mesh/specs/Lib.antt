@@ -7,3 +7,4 @@ pub mod Given
 pub mod Filled
 pub mod Blocks
 pub mod Workers
+pub mod Refused

@@ -1,37 +1,53 @@
-// The numbers by which a call is refused.
+// Why a call is refused, and the numbers by which C is told.
+ghost use Rattle.std.specs.Prelude.{◌≡◌};
+ghost use Rattle.mesh.specs.Refused.{number_of};
 
-// Too many particles, triangles, edges or boundary entries, or blocks whose lengths do not fit each other.
-pub const SIZE: usize = 1;
+#[derive(Clone, Copy, Debug, PartialEq, Eq)]
+pub enum Refusal {
+    // Too many particles, triangles, edges or boundary entries, or blocks whose lengths do not fit each other.
+    Size,
+    // A number that is too large or not finite, or a flag that is neither 0 nor 1.
+    Number,
+    // Something names a particle that is not there, or one twice.
+    Name,
+    // A bad argument.
+    Argument,
+    // No room for particles.
+    Particles,
+    // No room for edges.
+    Edges,
+    // No room for boundary entries.
+    Boundary,
+    // No room for entries of the log.
+    Entries,
+    // The bytes are no whole sheet.
+    Sheet,
+    // The reader of a sheet is closed.
+    Closed,
+    // Edition 2: a coordinate that is not whole.
+    Whole,
+    // Edition 2: a mesh of straps.
+    Straps,
+}
 
-// A number that is too large or not finite, or a flag that is neither 0 nor 1.
-pub const NUMBER: usize = 2;
-
-// Something names a particle that is not there, or one twice.
-pub const NAME: usize = 3;
-
-// A bad argument.
-pub const ARGUMENT: usize = 4;
-
-// No room for particles.
-pub const PARTICLES: usize = 5;
-
-// No room for edges.
-pub const EDGES: usize = 6;
-
-// No room for boundary entries.
-pub const BOUNDARY: usize = 7;
-
-// No room for entries of the log.
-pub const ENTRIES: usize = 8;
-
-// The bytes are no whole sheet.
-pub const SHEET: usize = 9;
-
-// The reader of a sheet is closed.
-pub const CLOSED: usize = 10;
-
-// Edition 2: a coordinate that is not whole.
-pub const WHOLE: usize = 11;
-
-// Edition 2: a mesh of straps.
-pub const STRAPS: usize = 12;
+impl Refusal {
+    // The number of a refusal (docs/RULES.md, R3).
+    pub fn number(self) -> usize
+        ensures { result ≡ number_of self }
+    {
+        match self {
+            Refusal::Size => 1,
+            Refusal::Number => 2,
+            Refusal::Name => 3,
+            Refusal::Argument => 4,
+            Refusal::Particles => 5,
+            Refusal::Edges => 6,
+            Refusal::Boundary => 7,
+            Refusal::Entries => 8,
+            Refusal::Sheet => 9,
+            Refusal::Closed => 10,
+            Refusal::Whole => 11,
+            Refusal::Straps => 12,
+        }
+    }
+}

@@ -15,10 +15,10 @@ pub fn append_copy(v: usize, n: usize, m: f32, w: f32, points: &mut [f32], roots
 {
     let p = points.len() / POINT_COLUMNS;
     let r = roots.len() / crate::ROOT_COLUMNS;
-    columns::copy_row_f32(v, n, POINT_COLUMNS, p, points);
+    columns::copy_row(v, n, POINT_COLUMNS, p, points);
     points[4 * p + n] = m;
     points[5 * p + n] = w;
-    columns::copy_row_usize(v, n, 2, r, roots);
+    columns::copy_row(v, n, 2, r, roots);
 }
 
 // Removes the marked edges from the first n, and returns how many are left. Edges before the first marked one are not touched, and those between two are moved as a whole.
@@ -31,12 +31,13 @@ pub fn remove_edges(mask: &[usize], n: usize, ends: &mut [usize], lengths: &mut 
     let l = lengths.len() / crate::LENGTH_COLUMNS;
     let mut r: usize = columns::next_marked(mask, 0, n);
     let mut w: usize = r;
+    // A turn passes a whole run of rows, so no range steps by it.
     while r < n {
         let a = r + 1;
         let b = columns::next_marked(mask, a, n);
         let len = b - a;
-        columns::shift_block_usize(w, a, len, 4, e, ends);
-        columns::shift_block_f32(w, a, len, 4, l, lengths);
+        columns::shift_block(w, a, len, 4, e, ends);
+        columns::shift_block(w, a, len, 4, l, lengths);
         w += len;
         r = b;
     }
@@ -84,11 +85,9 @@ pub fn rewire(v: usize, n: usize, elements: &[usize], groups: &[usize], corners:
     ensures { Mapped (λ k. retargeted v (copy_for_of v n (group_of elements.now groups.now k)))
         corners.old corners.new }
 {
-    let mut i: usize = 0;
-    while i < elements.len() {
+    for i in 0..elements.len() {
         let e = elements[i];
         let w = copy_for(v, n, groups[i]);
         retarget(e, v, w, corners);
-        i += 1;
     }
 }

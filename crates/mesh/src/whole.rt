@@ -75,37 +75,37 @@ pub fn copy_all(
     ensures { mesh_behind k points roots corners volumes ends lengths outline
         ≡ mesh_before k in_points in_roots in_corners in_volumes in_ends in_lengths in_outline }
 {
-    columns::copy_block_f32(
+    columns::copy_block(
         in_points,
         in_points.len() / POINT_COLUMNS,
         POINT_COLUMNS,
         points.len() / POINT_COLUMNS,
         points,
     );
-    columns::copy_block_usize(in_roots, in_roots.len() / 2, 2, roots.len() / 2, roots);
-    columns::copy_block_usize(
+    columns::copy_block(in_roots, in_roots.len() / 2, 2, roots.len() / 2, roots);
+    columns::copy_block(
         in_corners,
         in_corners.len() / 3,
         3,
         corners.len() / 3,
         corners,
     );
-    columns::copy_block_f32(
+    columns::copy_block(
         in_volumes,
         in_volumes.len() / 2,
         2,
         volumes.len() / 2,
         volumes,
     );
-    columns::copy_block_usize(in_ends, in_ends.len() / 4, 4, ends.len() / 4, ends);
-    columns::copy_block_f32(
+    columns::copy_block(in_ends, in_ends.len() / 4, 4, ends.len() / 4, ends);
+    columns::copy_block(
         in_lengths,
         in_lengths.len() / 4,
         4,
         lengths.len() / 4,
         lengths,
     );
-    columns::copy_block_usize(
+    columns::copy_block(
         in_outline,
         in_outline.len() / 2,
         2,
@@ -131,17 +131,17 @@ pub fn finish_all(
         (lent_before points roots corners volumes ends lengths outline log) points.new roots.new corners.new
         volumes.new ends.new lengths.new outline.new log.new }
 {
-    columns::clear_block_f32(
+    columns::clear_block(
         k.particles,
         POINT_COLUMNS,
         points.len() / POINT_COLUMNS,
         points,
     );
-    columns::clear_block_usize(k.particles, 2, roots.len() / 2, roots);
-    columns::clear_block_usize(k.triangles, 3, corners.len() / 3, corners);
-    columns::clear_block_f32(k.triangles, 2, volumes.len() / 2, volumes);
-    columns::clear_block_usize(k.edges, 4, ends.len() / 4, ends);
-    columns::clear_block_f32(k.edges, 4, lengths.len() / 4, lengths);
-    columns::clear_block_usize(k.boundary, 2, outline.len() / 2, outline);
-    columns::clear_usize(6 * k.log, log);
+    columns::clear_block(k.particles, 2, roots.len() / 2, roots);
+    columns::clear_block(k.triangles, 3, corners.len() / 3, corners);
+    columns::clear_block(k.triangles, 2, volumes.len() / 2, volumes);
+    columns::clear_block(k.edges, 4, ends.len() / 4, ends);
+    columns::clear_block(k.edges, 4, lengths.len() / 4, lengths);
+    columns::clear_block(k.boundary, 2, outline.len() / 2, outline);
+    columns::clear(6 * k.log, log);
 }

@@ -1,6 +1,7 @@
 // What refuses a call before its steps: 1 to 4, those of the mesh, then those of what stands beside it, and then what its edition refuses.
 ghost use Rattle.std.specs.Prelude.{◌≡◌, ◌/◌, ◌≤◌, true, [], length};
 ghost use Rattle.model.specs.Calls.{sides_ok, refusal};
+ghost use Rattle.mesh.specs.Refused.{refusal_in};
 ghost use Rattle.mesh.specs.Given.{mesh_of, sizes_fit_of, as_rooms};
 ghost use Rattle.mesh_calls.specs.Jobs.{job_numbers, job_arguments, job_edition, job_refusal, whole_places_of};
 ghost use Rattle.mesh.specs.Widths.{point_columns};
@@ -9,6 +10,7 @@ ghost use Rattle.mesh.specs.Blocks.{mesh_before, given_before, inputs_in};
 
 use crate::{Job, fans};
 use elements::Kind;
+use mesh::refusals::Refusal;
 use mesh::{Counts, Rooms};
 use split_plan::place;
 
@@ -89,7 +91,7 @@ fn arguments_fit(
     }
 }
 
-// The refusals 2 to 4 of a call, or 0.
+// The refusals 2 to 4 of a call.
 fn judge_arguments(
     job: Job,
     list: &[usize],
@@ -102,23 +104,20 @@ fn judge_arguments(
     in_ends: &[usize],
     in_lengths: &[f32],
     in_outline: &[usize],
-) -> usize
+) -> Result<(), Refusal>
     requires { Fits k (inputs_in in_points in_roots in_corners in_volumes in_ends in_lengths in_outline) }
-    ensures { let M = mesh_before k in_points in_roots in_corners in_volumes in_ends in_lengths in_outline in result
-        ≡ refusal true M (job_numbers job) (job_arguments job list.now (as_rooms room) M) }
+    ensures { let M = mesh_before k in_points in_roots in_corners in_volumes in_ends in_lengths in_outline in
+        refusal_in result ≡ refusal true M (job_numbers job) (job_arguments job list.now (as_rooms room) M) }
 {
     let fault = judge::checks::judge_sized(
         k, in_points, in_roots, in_corners, in_volumes, in_ends, in_lengths, in_outline,
     );
-    let code = arguments::tests::with_numbers(fault, numbers_fit(job));
-    if code != 0 {
-        return code;
-    }
+    arguments::tests::with_numbers(fault, numbers_fit(job))?;
     let ok = arguments_fit(
         job, list, room, k, in_points, in_roots, in_corners, in_volumes, in_ends, in_lengths,
         in_outline,
     );
-    judge::tests::first(code, ok, 4)
+    judge::tests::ensure(ok, Refusal::Argument)
 }
 
 // Is each of the first n positions a whole point?
@@ -126,17 +125,15 @@ fn whole_places(n: usize, points: &[f32]) -> bool
     requires { n ≤ length points.now / point_columns }
     ensures { result ≡ whole_places_of n points.now }
 {
-    let mut i: usize = 0;
-    while i < n {
+    for i in 0..n {
         if !exact::whole_point(place(i, points)) {
             return false;
         }
-        i += 1;
     }
     true
 }
 
-// What refuses a call on an accepted mesh behind its arguments, or 0. In edition 2 a cut gets 11 off the whole numbers, and then 12 on straps.
+// What refuses a call on an accepted mesh behind its arguments. In edition 2 a cut gets 11 off the whole numbers, and then 12 on straps.
 fn edition_refusal(
     job: Job,
     k: Counts,
@@ -147,28 +144,28 @@ fn edition_refusal(
     in_ends: &[usize],
     in_lengths: &[f32],
     in_outline: &[usize],
-) -> usize
+) -> Result<(), Refusal>
     requires { Fits k (inputs_in in_points in_roots in_corners in_volumes in_ends in_lengths in_outline) }
-    ensures { result ≡ job_edition job (mesh_before k in_points in_roots in_corners in_volumes in_ends in_lengths in_outline) }
+    ensures { refusal_in result ≡ job_edition job (mesh_before k in_points in_roots in_corners in_volumes in_ends in_lengths in_outline) }
 {
     let Job::Cut(edition, b0, b1, _) = job else {
-        return 0;
+        return Ok(());
     };
     if edition != 2 {
-        return 0;
+        return Ok(());
     }
     if !whole_places(k.particles, in_points) || !exact::whole_point(b0) || !exact::whole_point(b1) {
-        return mesh::refusals::WHOLE;
+        return Err(Refusal::Whole);
     }
     let kind = elements::kind_of(k.triangles, k.edges, in_ends);
     match kind {
-        Kind::Triangles => 0,
-        Kind::Straps => mesh::refusals::STRAPS,
-        Kind::Nothing => 0,
+        Kind::Triangles => Ok(()),
+        Kind::Straps => Err(Refusal::Straps),
+        Kind::Nothing => Ok(()),
     }
 }
 
-// What refuses a call on the first k rows of seven blocks before its steps, or 0: 2 to 4, then what its edition refuses. The columns may be longer than the mesh.
+// What refuses a call on the first k rows of seven blocks before its steps: 2 to 4, then what its edition refuses. The columns may be longer than the mesh.
 pub fn judge_sized(
     job: Job,
     list: &[usize],
@@ -181,24 +178,21 @@ pub fn judge_sized(
     in_ends: &[usize],
     in_lengths: &[f32],
     in_outline: &[usize],
-) -> usize
+) -> Result<(), Refusal>
     requires { Fits k (inputs_in in_points in_roots in_corners in_volumes in_ends in_lengths in_outline) }
-    ensures { result ≡ job_refusal job list.now true (mesh_before k in_points in_roots in_corners in_volumes in_ends
+    ensures { refusal_in result ≡ job_refusal job list.now true (mesh_before k in_points in_roots in_corners in_volumes in_ends
         in_lengths in_outline) (as_rooms room) }
 {
-    let code = judge_arguments(
+    judge_arguments(
         job, list, room, k, in_points, in_roots, in_corners, in_volumes, in_ends, in_lengths,
         in_outline,
-    );
-    if code != 0 {
-        return code;
-    }
+    )?;
     edition_refusal(
         job, k, in_points, in_roots, in_corners, in_volumes, in_ends, in_lengths, in_outline,
     )
 }
 
-// What refuses a call before its steps, or 0: 1 for the sizes, then the rest.
+// What refuses a call before its steps: 1 for the sizes, then the rest.
 pub fn judge(
     job: Job,
     list: &[usize],
@@ -210,9 +204,9 @@ pub fn judge(
     in_ends: &[usize],
     in_lengths: &[f32],
     in_outline: &[usize],
-) -> usize
-    ensures { let G = given_before in_points in_roots in_corners in_volumes in_ends in_lengths in_outline in result
-        ≡ job_refusal job list.now (sizes_fit_of G) (mesh_of G) (as_rooms room) }
+) -> Result<(), Refusal>
+    ensures { let G = given_before in_points in_roots in_corners in_volumes in_ends in_lengths in_outline in
+        refusal_in result ≡ job_refusal job list.now (sizes_fit_of G) (mesh_of G) (as_rooms room) }
 {
     let fit = judge::tests::sizes_fit(
         in_points.len(),
@@ -224,7 +218,7 @@ pub fn judge(
         in_outline.len(),
     );
     if !fit {
-        return 1;
+        return Err(Refusal::Size);
     }
     let k = Counts {
         particles: in_points.len() / mesh::POINT_COLUMNS,

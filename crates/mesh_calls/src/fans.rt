@@ -46,11 +46,9 @@ fn triangles_with(v: usize, t: usize, corners: &[usize]) -> usize
 {
     let c = corners.len() / mesh::CORNER_COLUMNS;
     let mut n: usize = 0;
-    let mut i: usize = 0;
-    while i < t {
+    for i in 0..t {
         let held = triangle_holds(v, corners[i], corners[c + i], corners[2 * c + i]);
         n += held;
-        i += 1;
     }
     n
 }
@@ -62,11 +60,9 @@ fn straps_with(v: usize, e: usize, ends: &[usize]) -> usize
 {
     let c = ends.len() / mesh::END_COLUMNS;
     let mut n: usize = 0;
-    let mut i: usize = 0;
-    while i < e {
+    for i in 0..e {
         let held = strap_holds(v, ends[2 * c + i], ends[i], ends[c + i]);
         n += held;
-        i += 1;
     }
     n
 }

@@ -13,8 +13,7 @@ use Rattle.model.specs.Reads.{refused, value}
 use Rattle.mesh.specs.declared.Counts.{Counts}
 use Rattle.mesh.specs.Log.{log_at}
 use Rattle.mesh.specs.Widths.{particle_words}
-use Rattle.work.specs.declared.Ran.{Ran}
-use Rattle.work.specs.declared.Ran.TheVariants.{Done}
+use Rattle.work.specs.Ran.{Ran}
 use Rattle.call_frame.specs.Framed.{words_change}
 use Rattle.image.specs.Words.{written, put_word_of, put_words}
 use Rattle.image_writing.specs.Stores.{left_words, StorableWithout}
@@ -23,6 +22,7 @@ use Rattle.mesh_replies.specs.Both.{BothReplied}
 use Rattle.edge_drops.specs.Parted.{listed}
 use Rattle.mesh_replies.specs.Told.{listed_edges, done_words, mesh_told, log_told, Tellable, Telling}
 use Rattle.mesh_replies.proofs.Shown.{listed_few, told_long}
+use Rattle.std.specs.Prelude.{Ok}
 
 module _ (k : Counts) (gone : List ℕ) (p : List Float) (r c : List ℕ) (v : List Float) (e : List ℕ) (l : List Float) (o : List ℕ) (lg logged : ℕ)
     (h : Tellable k gone (length p) (length r) (length c) (length v) (length e) (length l) (length o) lg logged) where
@@ -76,7 +76,11 @@ pub told_as : (a b : Ran) (gone : List ℕ) (p : List Float) (r c : List ℕ) (v
     → BothReplied (mesh_told b gone p r c v e l o g) (log_told b g) lent logged x out log → BothReplied (mesh_told a gone p r c v e l o g) (log_told a g) lent logged x out log
 told_as a b gone p r c v e l o g lent logged x out log q h = subst (λ (z : Ran). BothReplied (mesh_told z gone p r c v e l o g) (log_told z g) lent logged x out log) (sym q) h
 
+-- a refusal by its number
+pub refused_as : (n m lent logged x : ℕ) (out log : List ℕ) → n ≡ m → BothReplied (refused n) [] lent logged x out log → BothReplied (refused m) [] lent logged x out log
+refused_as n m lent logged x out log q h = subst (λ (z : ℕ). BothReplied (refused z) [] lent logged x out log) q h
+
 -- whether anything was split or inserted, as the log tells it
 pub done_as : (k : Counts) (any : Bool) (gone : List ℕ) (p : List Float) (r c : List ℕ) (v : List Float) (e : List ℕ) (l : List Float) (o g : List ℕ) (lent logged x : ℕ) (out log : List ℕ) → any ≡ words_change (log_at k.log g)
-    → BothReplied (value (done_words k any (listed_edges gone) p r c v e l o)) (take (6 * k.log) g) lent logged x out log → BothReplied (mesh_told (Done k) gone p r c v e l o g) (log_told (Done k) g) lent logged x out log
+    → BothReplied (value (done_words k any (listed_edges gone) p r c v e l o)) (take (6 * k.log) g) lent logged x out log → BothReplied (mesh_told (Ok k) gone p r c v e l o g) (log_told (Ok k) g) lent logged x out log
 done_as k any gone p r c v e l o g lent logged x out log q h = subst (λ (b : Bool). BothReplied (value (done_words k b (listed_edges gone) p r c v e l o)) (take (6 * k.log) g) lent logged x out log) q h

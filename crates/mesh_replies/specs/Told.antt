@@ -1,5 +1,5 @@
 -- The reply to a call that gives a mesh, by what it came to and left in its blocks. Only the contracts between the functions need this file. Definitions only.
-use Rattle.std.specs.Prelude.{ℕ, ◌+◌, ◌*◌, ◌/◌, ◌≤◌, ◌<◌, Bool, List, [], ◌∷◌, length, take, Float}
+use Rattle.std.specs.Prelude.{ℕ, ◌+◌, ◌*◌, ◌/◌, ◌≤◌, ◌<◌, Bool, List, [], ◌∷◌, length, take, Float, Ok, Err}
 use Rattle.lists.specs.Lists.{pick}
 use Rattle.lists.specs.LeftOut.{Rising}
 use Rattle.model.specs.Reads.{Read, refused, value}
@@ -7,11 +7,11 @@ use Rattle.mesh.specs.Log.{log_at}
 use Rattle.mesh.specs.declared.Counts.{Counts}
 use Rattle.mesh.specs.Widths.{point_columns, corner_columns, end_columns, length_columns, root_columns, volume_columns, side_columns}
 use Rattle.mesh.specs.Limits.{particle_limit, triangle_limit, edge_limit, boundary_limit}
-use Rattle.work.specs.declared.Ran.{Ran}
-use Rattle.work.specs.declared.Ran.TheVariants.{Refused, Done}
+use Rattle.work.specs.Ran.{Ran}
 use Rattle.call_frame.specs.Framed.{words_change}
 use Rattle.edge_drops.specs.Parted.{listed}
 use Rattle.image_writing.specs.Stores.{left_words}
+use Rattle.mesh.specs.Refused.{number_of}
 
 -- the numbers of the listed edges
 abbrev pub listed_edges : List ℕ → List ℕ
@@ -23,13 +23,13 @@ done_words k b is p r c v e l o = pick b 1 0 ∷ k.log ∷ left_words k is p r c
 
 -- what is told of what a call came to, whose log is the first words of g
 abbrev pub mesh_told : Ran → List ℕ → List Float → List ℕ → List ℕ → List Float → List ℕ → List Float → List ℕ → List ℕ → Read (List ℕ)
-mesh_told (Refused n) gone p r c v e l o g = refused n
-mesh_told (Done k) gone p r c v e l o g = value (done_words k (words_change (log_at k.log g)) (listed_edges gone) p r c v e l o)
+mesh_told (Err d) gone p r c v e l o g = refused (number_of d)
+mesh_told (Ok k) gone p r c v e l o g = value (done_words k (words_change (log_at k.log g)) (listed_edges gone) p r c v e l o)
 
 -- the words of its log
 abbrev pub log_told : Ran → List ℕ → List ℕ
-log_told (Refused n) g = []
-log_told (Done k) g = take (6 * k.log) g
+log_told (Err d) g = []
+log_told (Ok k) g = take (6 * k.log) g
 
 -- the rows and the listed edges stand in blocks that are no longer than those of a mesh, the listed edges rise, and the log stands in its words and in its bytes
 pub record Tellable (k : Counts) (gone : List ℕ) (lp lr lc lv le ll lo lg logged : ℕ) : Type 0 where
@@ -51,5 +51,5 @@ pub record Tellable (k : Counts) (gone : List ℕ) (lp lr lc lv le ll lo lg logg
 
 -- the same of what a call came to; or the number of a refusal is small
 abbrev pub Telling : Ran → List ℕ → ℕ → ℕ → ℕ → ℕ → ℕ → ℕ → ℕ → ℕ → ℕ → Type 0
-Telling (Refused n) gone lp lr lc lv le ll lo lg logged = n < 256
-Telling (Done k) gone lp lr lc lv le ll lo lg logged = Tellable k gone lp lr lc lv le ll lo lg logged
+Telling (Err d) gone lp lr lc lv le ll lo lg logged = number_of d < 256
+Telling (Ok k) gone lp lr lc lv le ll lo lg logged = Tellable k gone lp lr lc lv le ll lo lg logged

@@ -7,9 +7,10 @@ ghost use Rattle.mesh_replies.specs.Both.{BothReplied};
 ghost use Rattle.mesh_replies.specs.Told.{listed_edges, done_words, mesh_told, log_told, Tellable, Telling};
 
 use mesh::Counts;
+use mesh::refusals::Refusal;
 use work::Ran;
 
-// A refusal: every byte of the answer and of the log is 0.
+// A refusal: every byte of the answer and of the log is 0. (The C interface has its number.)
 pub fn refuse(code: usize, out: &mut [u8], log: &mut [u8]) -> u32
     requires { code < 256 }
     ensures { BothReplied (refused code) [] (length out.old) (length log.old) result out.new
@@ -35,10 +36,8 @@ fn store_log(words: &[u32], at: usize, log: &mut [u8])
     requires { 4 * (at + length words.now) ≤ length log.old }
     ensures { log.new ≡ put_words log.old at words.now }
 {
-    let mut i: usize = 0;
-    while i < words.len() {
+    for i in 0..words.len() {
         image_writing::put_word(log, at + i, words[i] as usize);
-        i += 1;
     }
 }
 
@@ -83,7 +82,7 @@ fn reply_done(
     let s = gone[edge_drops::LISTED];
     let end = 4 * (6 + mesh::PARTICLE_WORDS * p + 5 * t + 8 * e + 2 * b);
     if out.len() < end {
-        return refuse(mesh::refusals::ARGUMENT, out, log);
+        return refuse(Refusal::Argument.number(), out, log);
     }
     image_writing::put_word(out, 0, one_if(any));
     image_writing::put_word(out, 1, n);
@@ -117,10 +116,10 @@ pub fn reply_ran(
         (log_told ran words.now) (length out.old) (length log.old) result out.new log.new }
 {
     match ran {
-        Ran::Refused(code) => {
-            return refuse(code, out, log);
+        Err(refusal) => {
+            return refuse(refusal.number(), out, log);
         }
-        Ran::Done(k) => {
+        Ok(k) => {
             let any = call_frame::logged::changed(k.log, words);
             return reply_done(
                 k, any, gone, points, roots, corners, volumes, ends, lengths, outline, words, out,

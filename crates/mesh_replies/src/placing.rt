@@ -29,15 +29,13 @@ fn place_words(bytes: &[u8], at: usize, n: usize, width: usize, stride: usize, b
     requires { (n ≤ stride) × (width * stride ≤ length block.old) × (4 * (at + width * n) ≤ length bytes.now) }
     ensures { BlockCopied 0 n width stride (words_from bytes.now at (width * n)) block.new }
 {
-    let mut c: usize = 0;
     let mut o: usize = 0;
     let mut a: usize = 0;
-    while c < width {
+    for c in 0..width {
         let e = o + stride;
         image::words_into(bytes, at + a, n, &mut block[o..e]);
         o = e;
         a += n;
-        c += 1;
     }
 }
 
@@ -46,15 +44,13 @@ fn place_numbers(bytes: &[u8], at: usize, n: usize, width: usize, stride: usize,
     requires { (n ≤ stride) × (width * stride ≤ length block.old) × (4 * (at + width * n) ≤ length bytes.now) }
     ensures { BlockCopied nan n width stride (numbers_from bytes.now at (width * n)) block.new }
 {
-    let mut c: usize = 0;
     let mut o: usize = 0;
     let mut a: usize = 0;
-    while c < width {
+    for c in 0..width {
         let e = o + stride;
         image::numbers_into(bytes, at + a, n, &mut block[o..e]);
         o = e;
         a += n;
-        c += 1;
     }
 }
 

@@ -21,14 +21,12 @@ fn triangle_corners(t: usize, corners: &[usize], verts: &mut [usize])
     ensures { TriangleCorners t corners.now verts.new }
 {
     let c = corners.len() / mesh::CORNER_COLUMNS;
-    let mut i: usize = 0;
     let mut o: usize = 0;
-    while i < t {
+    for i in 0..t {
         verts[o] = corners[i];
         verts[o + 1] = corners[c + i];
         verts[o + 2] = corners[2 * c + i];
         o += 3;
-        i += 1;
     }
 }
 
@@ -38,17 +36,15 @@ fn strap_corners(e: usize, ends: &[usize], verts: &mut [usize]) -> usize
     ensures { StrapCorners e ends.now result verts.new }
 {
     let c = ends.len() / mesh::END_COLUMNS;
-    let mut i: usize = 0;
     let mut n: usize = 0;
     let mut o: usize = 0;
-    while i < e {
+    for i in 0..e {
         if ends[2 * c + i] == 1 {
             verts[o] = ends[i];
             verts[o + 1] = ends[c + i];
             o += 2;
             n += 1;
         }
-        i += 1;
     }
     n
 }

@@ -63,8 +63,7 @@ fn triangle_corners(v: usize, t: usize, corners: &[usize], verts: &mut [usize]) 
 {
     let c = corners.len() / mesh::CORNER_COLUMNS;
     let mut r: usize = 0;
-    let mut i: usize = 0;
-    while i < t {
+    for i in 0..t {
         let x = corners[i];
         let y = corners[c + i];
         let z = corners[2 * c + i];
@@ -72,7 +71,6 @@ fn triangle_corners(v: usize, t: usize, corners: &[usize], verts: &mut [usize]) 
             put_three(r, x, y, z, verts);
             r += 1;
         }
-        i += 1;
     }
     r
 }
@@ -84,15 +82,13 @@ fn strap_corners(v: usize, e: usize, ends: &[usize], verts: &mut [usize]) -> usi
 {
     let c = ends.len() / mesh::END_COLUMNS;
     let mut r: usize = 0;
-    let mut i: usize = 0;
-    while i < e {
+    for i in 0..e {
         let x = ends[i];
         let y = ends[c + i];
         if strap_holds(v, ends[2 * c + i], x, y) {
             put_two(r, x, y, verts);
             r += 1;
         }
-        i += 1;
     }
     r
 }

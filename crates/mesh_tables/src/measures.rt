@@ -17,10 +17,8 @@ fn triangle_sum(t: usize, corners: &[usize], volumes: &[f32]) -> f32
         volumes.now))) }
 {
     let mut s: f32 = 0.0;
-    let mut i: usize = 0;
-    while i < t {
+    for i in 0..t {
         s = s + float::abs::abs(volumes[i]);
-        i += 1;
     }
     s
 }
@@ -33,12 +31,10 @@ fn strap_sum(e: usize, ends: &[usize], lengths: &[f32]) -> f32
     let c = ends.len() / mesh::END_COLUMNS;
     let m = lengths.len() / mesh::LENGTH_COLUMNS;
     let mut s: f32 = 0.0;
-    let mut i: usize = 0;
-    while i < e {
+    for i in 0..e {
         if ends[2 * c + i] == 1 {
             s = s + lengths[m + i];
         }
-        i += 1;
     }
     s
 }

@@ -1,10 +1,11 @@
 -- Cracks across torn edges: `crack_body` with no torn cells. Definitions only.
 use Rattle.std.specs.Prelude.{ℕ, Bool, true, false, ◌&&◌, ◌||◌, List, [], ◌∷◌, ◌++◌, map, length, get_or, eqb, ltb, Float}
+use Rattle.std.specs.Prelude.{Option as Ordered, None, Some}
+use Rattle.std.specs.declared.cmp.Ordering.{Ordering}
+use Rattle.std.specs.declared.cmp.Ordering.TheVariants.{Less, Equal, Greater}
 use Rattle.std.proofs.Math.Option.{Option, none, some}
 use Rattle.std.specs.Float.Ieee.{lt, ne}
 use Rattle.lists.specs.Lists.{pick, stands, any, sift, find, fold, each, pairs, map_at_of, empty}
-use Rattle.float.specs.declared.order.Order.{Order}
-use Rattle.float.specs.declared.order.Order.TheVariants.{Less, Equal, Greater, Unordered}
 use Rattle.float.specs.Numbers.{over, zero32, count32, max_of}
 use Rattle.float.specs.Order.{total_cmp_of}
 use Rattle.blade.specs.Points.{minus_of, dot_of, sum_of}
@@ -101,11 +102,11 @@ way_at k loads M v w =
     pick (two_sided_of M v sides) (record { load = mean_load k loads M v w; opening = opening_of k M v sides } ∷ []) []
 
 -- the higher mean load first (IEEE 754 total order), then the lower number. (No load of an accepted mesh is a NaN.)
-abbrev pub ahead : Order → Bool → Bool
-ahead Less lower = false
-ahead Equal lower = lower
-ahead Greater lower = true
-ahead Unordered lower = lower
+abbrev pub ahead : Ordered Ordering → Bool → Bool
+ahead (Some Less) lower = false
+ahead (Some Equal) lower = lower
+ahead (Some Greater) lower = true
+ahead None lower = lower
 
 -- does p go before q
 abbrev pub before? : Way → Way → Bool

@@ -1,9 +1,7 @@
 -- What a call that only reads answers: a refusal's number, or a value. Definitions only.
-use Rattle.std.specs.Prelude.{ℕ, zero, suc, Bool, true, ◌&&◌, List, eqb, ltb, length, get_or, Float}
+use Rattle.std.specs.Prelude.{ℕ, zero, suc, Bool, true, ◌&&◌, List, eqb, ltb, length, get_or, Float, Option, None, Some}
 use Rattle.std.specs.Float.Ieee.{eq}
 use Rattle.lists.specs.Lists.{pick}
-use Rattle.float.specs.declared.root.Rooted.{Rooted}
-use Rattle.float.specs.declared.root.Rooted.TheVariants.{Value, Refused}
 use Rattle.float.specs.Root.{root_of, root_refusal}
 use Rattle.blade.specs.declared.Point.{Point}
 use Rattle.blade.specs.declared.Hit.{Hit}
@@ -35,9 +33,9 @@ or_refused zero a = value a
 or_refused (suc n) a = refused (suc n)
 
 -- a root of a number below 0 or not finite: the number that crate float gives it
-abbrev pub rooted : Rooted → Read Float
-rooted (Value r) = value r
-rooted Refused = refused (root_refusal Refused)
+abbrev pub rooted : Option Float → Read Float
+rooted (Some r) = value r
+rooted None = refused (root_refusal None)
 
 -- the root of x
 abbrev pub root_call : Float → Read Float

@@ -6,13 +6,6 @@ ghost use Rattle.outline.specs.Outline.{holds};
 ghost use Rattle.outline_tables.specs.Rows.{row3, Even};
 ghost use Rattle.outline_tables.specs.Links.{chain_at, held_to, Chained, LinkRoom, Linked};
 
-// The same number in more bits.
-fn wide(x: u16) -> usize
-    ensures { result ≡ x }
-{
-    x as usize
-}
-
 // The chain of place q.
 fn chain_of(q: usize, a: &[usize], b: &[usize], c: &[usize]) -> usize
     requires { Even (length a.now) (length b.now) (length c.now) × (q < 3 * length a.now) }
@@ -43,13 +36,11 @@ pub fn link_corners(
     requires { LinkRoom (length a.now) (length b.now) (length c.now) q heads.old (length links.old) sizes.old }
     ensures { Chained (chain_at a.now b.now c.now) heads.new links.new q }
 {
-    let mut t: usize = 0;
-    while t < q {
+    for t in 0..q {
         let k = chain_of(t, a, b, c);
         links[t] = heads[k];
-        t += 1;
-        heads[k] = t as u16;
-        sizes[k] = sizes[k] + 1;
+        heads[k] = (t + 1) as u16;
+        sizes[k] += 1;
     }
 }
 
@@ -89,7 +80,8 @@ fn holders_along(
 {
     let mut n: usize = 0;
     let mut t = m;
-    let mut e = wide(heads[x % 1024]);
+    let mut e = usize::from(heads[x % 1024]);
+    // A chain: each place tells the next, so there is no range to go over.
     while 0 < e {
         let s = e - 1;
         let j = s / 3;
@@ -100,7 +92,7 @@ fn holders_along(
             n += 1;
         }
         t = j;
-        e = wide(links[s]);
+        e = usize::from(links[s]);
     }
     n
 }

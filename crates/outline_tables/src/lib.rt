@@ -56,12 +56,10 @@ fn single_side(
     ensures { result ≡ single (rows3 a.now b.now c.now) (x ∷ y ∷ []) }
 {
     let mut n = chains::side_holders(x, y, m, a, b, c, heads, links, sizes);
-    let mut i = m;
-    while i < a.len() {
+    for i in m..a.len() {
         if holds_side(x, y, a[i], b[i], c[i]) {
             n += 1;
         }
-        i += 1;
     }
     n == 1
 }
@@ -129,10 +127,8 @@ pub fn outline_triangles(a: &[usize], b: &[usize], c: &[usize], outline: &mut [u
     let m = at_most(a.len(), 1024);
     chains::link_corners(3 * m, a, b, c, &mut heads, &mut links, &mut sizes);
     let mut n: usize = 0;
-    let mut i: usize = 0;
-    while i < a.len() {
+    for i in 0..a.len() {
         n = add_faces(i, a, b, c, m, &heads, &links, &sizes, n, outline);
-        i += 1;
     }
     n
 }
@@ -143,10 +139,8 @@ pub fn outline_straps(a: &[usize], b: &[usize], c: &[usize], outline: &mut [usiz
     ensures { Listed (outline_of_straps (rows3 a.now b.now c.now)) outline.new result }
 {
     let mut n: usize = 0;
-    let mut i: usize = 0;
-    while i < a.len() {
+    for i in 0..a.len() {
         n = add_side(c[i] == 1, a[i], b[i], n, outline);
-        i += 1;
     }
     n
 }
@@ -195,12 +189,10 @@ fn among(x: usize, y: usize, q: &[usize], m: usize) -> bool
     ensures { result ≡ any (same_pair (x ∷ y ∷ [])) (sides_at m q.now) }
 {
     let o = q.len() / 2;
-    let mut i: usize = 0;
-    while i < m {
+    for i in 0..m {
         if same_pair(x, y, q[i], q[o + i]) {
             return true;
         }
-        i += 1;
     }
     false
 }
@@ -211,11 +203,8 @@ fn all_among(p: &[usize], n: usize, q: &[usize], m: usize) -> bool
     ensures { result ≡ within (sides_at n p.now) (sides_at m q.now) }
 {
     let o = p.len() / 2;
-    let mut i: usize = 0;
-    while i < n {
-        if among(p[i], p[o + i], q, m) {
-            i += 1;
-        } else {
+    for i in 0..n {
+        if !among(p[i], p[o + i], q, m) {
             return false;
         }
     }
@@ -241,6 +230,7 @@ pub fn copy_sides(own: &[usize], m: usize, outline: &mut [usize])
 {
     let o = own.len() / 2;
     let mut i: usize = 0;
+    // `add_side` counts the sides itself.
     while i < m {
         i = add_side(true, own[i], own[o + i], i, outline);
     }

@@ -28,8 +28,8 @@ use Rattle.marks.specs.Marking.{blade_by}
 use Rattle.marks.specs.declared.Rule.{Rule}
 use Rattle.marks.specs.declared.Rule.TheVariants.{Rounded, Signs}
 use Rattle.work.specs.Working.{Went, Works}
-use Rattle.work.specs.declared.Ran.TheVariants.{Done}
 use Rattle.perform.specs.Asks.{marks_tell_of, passed_by}
+use Rattle.std.specs.Prelude.{Ok}
 
 -- ---- lists of nothing
 
@@ -121,7 +121,7 @@ module _ (b0 b1 : Point) (f : Float) (R : Run) where
   passed_stays rule NothingCase t e = refl
 
 pub marks_passed : (rule : Rule) (kind : KindCase) (b0 b1 : Point) (f : Float) {L : Rooms} {W : World} {at : Counts → World} (k : Counts) → passed_by rule kind k.log ≡ true
-    → (k.log ≡ 0 → (at k).log ≡ []) → Works (marked_by (kind_is kind) (blade_by rule b0 b1)) L W at (Done k) → Works (cut (kind_is kind) (blade_by rule b0 b1) f) L W at (Done k)
+    → (k.log ≡ 0 → (at k).log ≡ []) → Works (marked_by (kind_is kind) (blade_by rule b0 b1)) L W at (Ok k) → Works (cut (kind_is kind) (blade_by rule b0 b1) f) L W at (Ok k)
 unfolding cut
 marks_passed rule kind b0 b1 f {L} {W} {at} k p none F =
     let t = and_true (eqb k.log 0) (marks_tell_of rule kind) p in
@@ -130,5 +130,5 @@ marks_passed rule kind b0 b1 f {L} {W} {at} k p none F =
           λ R e z.
           let h = F.went R e z in
           let clear = words_none (marked_by (kind_is kind) (blade_by rule b0 b1) R).log (sym (ap (λ (x : World). x.log) h.2) ∙ none (eqb-true _ _ t.0)) in
-          subst (λ (S : Run). Went L S at (Done k)) (sym (passed_stays b0 b1 f R rule kind t.1 clear)) h;
+          subst (λ (S : Run). Went L S at (Ok k)) (sym (passed_stays b0 b1 f R rule kind t.1 clear)) h;
     }

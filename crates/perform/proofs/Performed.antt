@@ -12,7 +12,7 @@ use Rattle.lists.proofs.Sifts.{and_true, all_get}
 use Rattle.model.specs.Mesh.{Mesh}
 use Rattle.model.specs.Elements.{Kind, kind_of, fan_of}
 use Rattle.model.specs.Run.{Rooms as RoomsOf}
-use Rattle.model.specs.Calls.{sides_ok, triangles_lent}
+use Rattle.model.specs.Calls.{refused, sides_ok, triangles_lent}
 use Rattle.mesh.specs.At.{mesh_at}
 use Rattle.mesh.specs.Log.{World, log_at, world_at}
 use Rattle.mesh.specs.Given.{Given, Lent, mesh_of, sizes, sizes_fit_of, as_rooms}
@@ -21,16 +21,18 @@ use Rattle.mesh.specs.declared.Counts.{Counts}
 use Rattle.mesh.specs.declared.Rooms.{Rooms}
 use Rattle.work.specs.Working.{Roomed, Ready, Works, Logged}
 use Rattle.split.specs.Tables.{SidesGiven}
-use Rattle.work.specs.declared.Ran.{Ran}
-use Rattle.work.specs.declared.Ran.TheVariants.{Refused as Stopped, Done as Ended}
+use Rattle.work.specs.Ran.{Ran}
 use Rattle.call_frame.specs.Framed.{RoomsLent, BeginAsked, Begun, Came}
 use Rattle.call_frame.proofs.Begun.{begin_asked, begun_by, began_passed, began_ready}
-use Rattle.call_frame.proofs.Calls.{Counted, blocks_counted, nothing_before, came_begun, came_worked, unlogged}
+use Rattle.call_frame.proofs.Calls.{Counted, blocks_counted, nothing_before, begun_refused, came_begun, came_worked, unlogged}
 use Rattle.mesh_calls.specs.Jobs.{job_numbers, job_arguments, job_refusal, job_run, job_call}
 use Rattle.perform.specs.Asks.{JobAsked}
 use Rattle.mesh_calls.specs.declared.Job.{Job}
 use Rattle.mesh_calls.specs.declared.Job.TheVariants.{Straddlers, Split, Cut, Crack}
 use Rattle.mesh_calls.proofs.Jobs.{job_onward, job_lent, job_checked}
+use Rattle.std.specs.Prelude.{Ok, Err}
+use Rattle.mesh.specs.declared.refusals.Refusal.{Refusal}
+use Rattle.mesh.specs.Refused.{number_of}
 
 -- right sides are given
 sides_given : (M : Mesh) (v : ℕ) (sides : List ℕ) → sides_ok M v sides ≡ true → SidesGiven (kind_of M) M v sides
@@ -54,14 +56,10 @@ job_given (Crack min) ls L M e = tt
 -- ---- every job
 
 -- where nothing refuses a job, its input may be copied
-pub job_begins : (j : Job) (ls : List ℕ) (G : Given) (R : Rooms) (I : Lent) (code : ℕ) → code ≡ job_refusal j ls (sizes_fit_of G) (mesh_of G) (as_rooms R) → RoomsLent R I → BeginAsked code R G I
-job_begins j ls G R I code e rooms =
-    record { sized = λ z. (asked z).sized z; triangles = λ z. (asked z).triangles z; rooms = rooms }
-  where
-    asked : code ≡ 0 → BeginAsked code R G I
-    asked z =
-        begin_asked G R I code (job_numbers j) (job_arguments j ls (as_rooms R) (mesh_of G)) (z ∙ sym (job_checked j ls (sizes_fit_of G) (mesh_of G) (as_rooms R) (sym e ∙ z)))
-        (job_lent j ls (as_rooms R) (mesh_of G)) rooms
+pub job_begins : (j : Job) (ls : List ℕ) (G : Given) (R : Rooms) (I : Lent) → 0 ≡ job_refusal j ls (sizes_fit_of G) (mesh_of G) (as_rooms R) → RoomsLent R I → BeginAsked R G I
+job_begins j ls G R I e rooms =
+    begin_asked G R I 0 (job_numbers j) (job_arguments j ls (as_rooms R) (mesh_of G)) (sym (job_checked j ls (sizes_fit_of G) (mesh_of G) (as_rooms R) (sym e)))
+    (job_lent j ls (as_rooms R) (mesh_of G)) rooms refl
 
 -- no entries are a log
 nothing_logged : (g : List ℕ) → Logged 0 g
@@ -70,10 +68,16 @@ nothing_logged g = record { entries = []; words = refl }
 
 module _ (j : Job) (ls : List ℕ) (G : Given) {R : Rooms} {begun : ℕ} where
   -- a refusal
-  pub job_refused : {held : Mesh} → Begun (job_refusal j ls (sizes_fit_of G) (mesh_of G) (as_rooms R)) R (mesh_of G) held begun → (begun ≡ 0 → ⊥)
-      → (at : Counts → World) → Came (job_call j ls (sizes_fit_of G) (mesh_of G) (as_rooms R)) R at (Stopped begun)
+  pub job_refused : {held : Mesh} → Begun (job_refusal j ls (sizes_fit_of G) (mesh_of G) (as_rooms R)) R (mesh_of G) held begun → (c : Refusal) → begun ≡ number_of c
+      → (at : Counts → World) → Came (job_call j ls (sizes_fit_of G) (mesh_of G) (as_rooms R)) R at (Err c)
   unfolding job_call
-  job_refused B h at = came_begun (job_run j ls (kind_of (mesh_of G))) (job_onward j ls (kind_of (mesh_of G))) G B at h
+  job_refused B c h at = came_begun (job_run j ls (kind_of (mesh_of G))) (job_onward j ls (kind_of (mesh_of G))) G B at c h
+
+  -- the outcome is that number
+  pub job_turned : {held : Mesh} → Begun (job_refusal j ls (sizes_fit_of G) (mesh_of G) (as_rooms R)) R (mesh_of G) held begun → (begun ≡ 0 → ⊥)
+      → job_call j ls (sizes_fit_of G) (mesh_of G) (as_rooms R) ≡ refused begun
+  unfolding job_call
+  job_turned B h = begun_refused (job_run j ls (kind_of (mesh_of G))) (job_onward j ls (kind_of (mesh_of G))) G B h
 
   -- the copy may be worked on
   pub job_asked : (p : List Float) (r c : List ℕ) (v : List Float) (e : List ℕ) (l : List Float) (o g : List ℕ)
@@ -89,7 +93,7 @@ module _ (j : Job) (ls : List ℕ) (G : Given) {R : Rooms} {begun : ℕ} where
       )
 
   -- and what the work came to is the outcome, in whatever way the blocks hold it
-  pub job_worked : (p₁ : List Float) (r₁ c₁ : List ℕ) (v₁ : List Float) (e₁ : List ℕ) (l₁ : List Float) (o₁ g₁ : List ℕ) (at : Counts → World) (ran : Ran) → ((k : Counts) → ran ≡ Ended k → Counted k (at k))
+  pub job_worked : (p₁ : List Float) (r₁ c₁ : List ℕ) (v₁ : List Float) (e₁ : List ℕ) (l₁ : List Float) (o₁ g₁ : List ℕ) (at : Counts → World) (ran : Ran) → ((k : Counts) → ran ≡ Ok k → Counted k (at k))
       → Begun (job_refusal j ls (sizes_fit_of G) (mesh_of G) (as_rooms R)) R (mesh_of G) (mesh_at (sizes G) p₁ r₁ c₁ v₁ e₁ l₁ o₁) begun → begun ≡ 0
       → Works (job_run j ls (kind_of (mesh_at (sizes G) p₁ r₁ c₁ v₁ e₁ l₁ o₁))) R (world_at (sizes G) p₁ r₁ c₁ v₁ e₁ l₁ o₁ g₁) at ran → Came (job_call j ls (sizes_fit_of G) (mesh_of G) (as_rooms R)) R at ran
   unfolding job_call

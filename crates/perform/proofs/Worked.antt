@@ -25,8 +25,7 @@ use Rattle.edge_drops.specs.Parted.{listed, world_parted, ListingAfter}
 use Rattle.edge_drops.proofs.PartedLaws.{cleared, none_listed, works_unlisted}
 use Rattle.split.specs.Tables.{SidesGiven}
 use Rattle.work.specs.Places.{CornersIn, EndsIn, SidesIn}
-use Rattle.work.specs.declared.Ran.{Ran}
-use Rattle.work.specs.declared.Ran.TheVariants.{Refused, Done}
+use Rattle.work.specs.Ran.{Ran}
 use Rattle.work.proofs.Runs.{works_then, works_refused, works_known}
 use Rattle.work.proofs.Placed.{corners_in, ends_in, sides_in}
 use Rattle.blade.specs.declared.Point.{Point}
@@ -36,6 +35,8 @@ use Rattle.mesh_calls.specs.Jobs.{rule_in_of, job_run}
 use Rattle.perform.specs.Asks.{JobAsked}
 use Rattle.mesh_calls.specs.declared.Job.{Job}
 use Rattle.mesh_calls.specs.declared.Job.TheVariants.{Split}
+use Rattle.std.specs.Prelude.{Ok, Err}
+use Rattle.mesh.specs.declared.refusals.Refusal.{Refusal}
 
 module _ (k : Counts) (R : Rooms) (p : List Float) (r c : List ℕ) (v : List Float) (e : List ℕ) (l : List Float) (o g : List ℕ) where
   -- the kind that was found is that of the mesh in the blocks
@@ -86,8 +87,8 @@ module _ (k : Counts) (R : Rooms) (p : List Float) (r c : List ℕ) (v : List Fl
 unlisted : {f : Run → Run} {L : Rooms} {W : World} {at : Counts → World} (le ll : ℕ) (list : List ℕ) (ran : Ran) → 2049 ≤ length list → listed list ≡ 0 → L.edges ≤ 2048 → EdgeRoom L.edges le ll
     → (entries : List Entry) → W.log ≡ map words_of entries → Works f L W at ran → ListingAfter le ll list ran
 unfolding first_fault
-unlisted le ll list (Refused c) long none few room entries q F = tt
-unlisted {W = W} le ll list (Done k) long none few room entries q F =
+unlisted le ll list (Err c) long none few room entries q F = tt
+unlisted {W = W} le ll list (Ok k) long none few room entries q F =
     let R : Run = record { mesh = W.mesh; log = entries; needs = [] } in
     let H = (F.went R (λ i. record { mesh = W.mesh; log = q i }) refl).1.edges in
     none_listed [] [] list none k.edges le ll long (omega arith) (record { ends = omega (arith, room.ends); lengths = omega (arith, room.lengths) })
@@ -108,10 +109,10 @@ module _ (k : Counts) (R : Rooms) (p : List Float) (r c : List ℕ) (v : List Fl
       )
 
 -- where a room lacks the blocks may be read as any world
-pub works_any : {f : Run → Run} {L : Rooms} {W : World} {at at' : Counts → World} (ran : Ran) (c : ℕ) → ran ≡ Refused c → Works f L W at ran → Works f L W at' ran
+pub works_any : {f : Run → Run} {L : Rooms} {W : World} {at at' : Counts → World} (ran : Ran) (c : Refusal) → ran ≡ Err c → Works f L W at ran → Works f L W at' ran
 works_any {f} {L} {W} {at} {at'} ran c known F =
-    let G : Works f L W at (Refused c) = works_known ran (Refused c) known F in
-    works_known (Refused c) ran (sym known) (record { went = λ R e z. G.went R e z })
+    let G : Works f L W at (Err c) = works_known ran (Err c) known F in
+    works_known (Err c) ran (sym known) (record { went = λ R e z. G.went R e z })
 
 -- ---- the cut behind its marks
 
@@ -126,13 +127,13 @@ marked_indexed K B R X = subst Indexed (sym (marked_mesh K B R)) X
 
 module _ (K : Kind) (B : Blade) (f : Float) {L : Rooms} {W : World} {at : Counts → World} {ran : Ran} (F : Works (marked_by K B) L W at ran) where
   -- without room for them there is no cut
-  pub marks_refused : {then : Counts → World} (c : ℕ) → ran ≡ Refused c → Works (cut K B f) L W then ran
+  pub marks_refused : {then : Counts → World} (c : Refusal) → ran ≡ Err c → Works (cut K B f) L W then ran
   unfolding cut
   marks_refused {then} c known =
-      let G : Works (λ (R : Run). cut_along K B f (marked_by K B R)) L W then (Refused c) = works_refused (cut_along K B f) (λ R. along_onward K B f (marked_by K B R)) (works_known ran (Refused c) known F) in
-      works_known (Refused c) ran (sym known) (record { went = G.went })
+      let G : Works (λ (R : Run). cut_along K B f (marked_by K B R)) L W then (Err c) = works_refused (cut_along K B f) (λ R. along_onward K B f (marked_by K B R)) (works_known ran (Err c) known F) in
+      works_known (Err c) ran (sym known) (record { went = G.went })
 
   -- else the mesh is cut behind them
-  pub marks_done : {then : Counts → World} {s : Ran} (k : Counts) → ran ≡ Done k → Works (cut_along K B f) L (at k) then s → Works (cut K B f) L W then s
+  pub marks_done : {then : Counts → World} {s : Ran} (k : Counts) → ran ≡ Ok k → Works (cut_along K B f) L (at k) then s → Works (cut K B f) L W then s
   unfolding cut
-  marks_done {then} {s} k known C = record { went = (works_then (works_known ran (Done k) known F) C).went }
+  marks_done {then} {s} k known C = record { went = (works_then (works_known ran (Ok k) known F) C).went }

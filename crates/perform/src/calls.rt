@@ -6,6 +6,7 @@ ghost use Rattle.elements.specs.Table.{kind_is};
 ghost use Rattle.marks.specs.Marking.{blade_by};
 ghost use Rattle.mesh.specs.Given.{mesh_of, sizes, sizes_fit_of, as_rooms};
 ghost use Rattle.mesh.specs.Filled.{lent};
+ghost use Rattle.mesh.specs.Refused.{refusal_in};
 ghost use Rattle.work.specs.Working.{Roomed, Logged};
 ghost use Rattle.call_frame.specs.Framed.{RoomsLent, Begun, Came};
 ghost use Rattle.mesh_calls.specs.Jobs.{job_refusal, rule_in_of, job_run, job_call};
@@ -20,11 +21,12 @@ ghost use Rattle.mesh.specs.Log.{world_at};
 use blade::Point;
 use elements::Kind;
 use marks::Rule;
+use mesh::refusals::Refusal;
 use mesh::{Counts, Rooms};
 use mesh_calls::{Job, checks};
 use work::Ran;
 
-// Copies the input of a call, unless a check or a room refuses it. Returns the refusal, or 0.
+// Copies the input of a call, unless a check or a room refuses it.
 pub fn begin(
     job: Job,
     list: &[usize],
@@ -43,19 +45,19 @@ pub fn begin(
     ends: &mut [usize],
     lengths: &mut [f32],
     outline: &mut [usize],
-) -> usize
+) -> Result<(), Refusal>
     requires { RoomsLent room (blocks_in points roots corners volumes ends lengths outline) }
     ensures { let G = given_before in_points in_roots in_corners in_volumes in_ends in_lengths in_outline in
         Begun (job_refusal job list.now (sizes_fit_of G) (mesh_of G) (as_rooms room)) room (mesh_of G) (mesh_behind
-        (sizes G) points roots corners volumes ends lengths outline) result }
+        (sizes G) points roots corners volumes ends lengths outline) (refusal_in result) }
 {
-    let code = checks::judge(
+    checks::judge(
         job, list, room, in_points, in_roots, in_corners, in_volumes, in_ends, in_lengths,
         in_outline,
-    );
+    )?;
     call_frame::frame::begin(
-        code, room, in_points, in_roots, in_corners, in_volumes, in_ends, in_lengths, in_outline,
-        points, roots, corners, volumes, ends, lengths, outline,
+        room, in_points, in_roots, in_corners, in_volumes, in_ends, in_lengths, in_outline, points,
+        roots, corners, volumes, ends, lengths, outline,
     )
 }
 
@@ -115,14 +117,11 @@ fn cut_marked(
     requires { ReadyIn room k points roots corners volumes ends lengths outline log × Logged k.log log.old × ListIn list }
     ensures { WorksIn (cut (kind_is kind) (blade_by rule b0 b1) f) room k points roots corners volumes ends lengths outline log result }
 {
-    let ran = crossmarks::note_crossings(
+    let counts = crossmarks::note_crossings(
         rule, kind, b0, b1, k, room, points, roots, corners, volumes, ends, lengths, outline, log,
-    );
-    let Ran::Done(counts) = ran else {
-        return ran;
-    };
+    )?;
     if passed_by(rule, kind, counts.log) {
-        return Ran::Done(counts);
+        return Ok(counts);
     }
     strap_cut::kinds::run(
         rule, b0, b1, f, kind, counts, room, points, roots, corners, volumes, ends, lengths,
@@ -217,12 +216,12 @@ pub fn run(
         Came (job_call job list.now (sizes_fit_of G) (mesh_of G) (as_rooms room)) room
         (λ k. world_at k points.new roots.new corners.new volumes.new ends.new lengths.new outline.new log.new) result }
 {
-    let code = begin(
+    let begun = begin(
         job, list, room, in_points, in_roots, in_corners, in_volumes, in_ends, in_lengths,
         in_outline, points, roots, corners, volumes, ends, lengths, outline,
     );
-    if code != 0 {
-        return Ran::Refused(code);
+    if let Err(e) = begun {
+        return Err(e);
     }
     let k = Counts {
         particles: in_points.len() / mesh::POINT_COLUMNS,
@@ -232,12 +231,9 @@ pub fn run(
         log: 0,
     };
     let mut gone = [0usize; edge_drops::LIST];
-    let ran = work(
+    let q = work(
         job, list, k, room, points, roots, corners, volumes, ends, lengths, outline, log, &mut gone,
-    );
-    let Ran::Done(q) = ran else {
-        return ran;
-    };
+    )?;
     edge_drops::close_rows(q.edges, &gone, ends, lengths);
-    Ran::Done(q)
+    Ok(q)
 }

@@ -1,17 +1,17 @@
 -- Laws of `distinct`: what stands in it, and that nothing stands twice; lists without repeats. Assumes nothing.
 use mathlib.Core.Path.{◌≡◌, refl, sym, ◌∙◌, ap}
 use mathlib.Core.Bool.{Bool, true, false, not, ◌&&◌, false≢true}
-use mathlib.Core.List.{List, [], ◌∷◌, ◌++◌}
-use Prim.Native.Nat.{ℕ, zero, suc, ◌+◌, ◌<◌, ◌≤◌, zero-le, suc-le-suc}
+use mathlib.Core.List.{List, [], ◌∷◌}
+use Prim.Native.Nat.{ℕ, zero, suc, ◌<◌, ◌≤◌, zero-le, suc-le-suc}
 use native.Mathlib.Omega.{arith}
 use native.Mathlib.Nat.{not-suc-le-zero, le_of_suc-le-suc}
 use native.Mathlib.Decide.{ℕ_discrete}
 use borrow.Author.Tests.{eq-eqb, ne_eqb}
 use lib.Dec.{eqb}
-use lib.ListN.{length, get_or, length-append}
+use lib.ListN.{length, get_or}
 use Rattle.lists.specs.Lists.{pick, stands, sift, tab, distinct}
 use Rattle.lists.proofs.Stores.{tab_length, tab_at}
-use Rattle.lists.proofs.Sifts.{true_and, sift_append, sift_stands, stands_get, stands_made, tab_suc}
+use Rattle.lists.proofs.Sifts.{true_and, sift_stands, stands_get, stands_made}
 
 -- ---- values of a table
 

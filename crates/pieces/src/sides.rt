@@ -7,13 +7,6 @@ ghost use Rattle.pieces.specs.Counted.{SidesLent, PieceNumber};
 ghost use Rattle.bodies.specs.Tables.{Tied};
 ghost use Rattle.pieces.specs.Sides.{smaller, larger, tops, low_of, high_of, Sought, FacetFound, SameFacet, Sided, SideRoom, Putting, IsPut};
 
-// The same number in more bits.
-fn wide(x: u16) -> usize
-    ensures { result ≡ x }
-{
-    x as usize
-}
-
 // The element of a place. (By a divisor that is written out it is found faster.)
 fn element_of(place: usize, k: usize) -> usize
     requires { 1 ≤ k }
@@ -34,12 +27,13 @@ fn find_facet(low: usize, first: usize, links: &[u16], lows: &[u16]) -> usize
     ensures { (S : Sought low first links.now lows.now) → FacetFound S.f S.g S.t result }
 {
     let mut e = first;
+    // A chain: each place tells the next, so there is no range to go over.
     while 0 < e {
         let s = e - 1;
-        if wide(lows[s]) == low {
+        if usize::from(lows[s]) == low {
             return e;
         }
-        e = wide(links[s]);
+        e = usize::from(links[s]);
     }
     0
 }
@@ -87,7 +81,7 @@ fn join_facet(
     heads[h] = (t + 1) as u16;
     links[t] = first;
     lows[t] = low as u16;
-    let e = find_facet(low, wide(first), links, lows);
+    let e = find_facet(low, usize::from(first), links, lows);
     if 0 < e {
         let j = element_of(e - 1, k);
         bodies::forest::join(parent, i, j);
@@ -150,14 +144,12 @@ fn join_sides(
     ensures { Tied (SameFacet k (low_of k verts.now) (high_of k verts.now) (n * k)) parent.new }
 {
     fan::own_numbers(parent);
-    let mut i = 0;
-    while i < n {
+    for i in 0..n {
         if k == 3 {
             join_triangle(verts, i, heads, links, lows, parent);
         } else {
             join_strap(verts, i, heads, links, lows, parent);
         }
-        i += 1;
     }
 }
 
@@ -166,12 +158,10 @@ fn count_tops(labels: &[usize]) -> usize
     ensures { result ≡ length (tops labels.now) }
 {
     let mut count: usize = 0;
-    let mut i = 0;
-    while i < labels.len() {
+    for i in 0..labels.len() {
         if labels[i] == i {
             count += 1;
         }
-        i += 1;
     }
     count
 }

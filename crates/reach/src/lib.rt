@@ -97,11 +97,7 @@ fn clear(n: usize, seen: &mut [usize])
     requires { n ≤ length seen.old }
     ensures { (j : ℕ) → j < n → get_or seen.new j 0 ≡ 0 }
 {
-    let mut i = 0;
-    while i < n {
-        seen[i] = 0;
-        i += 1;
-    }
+    seen[..n].fill(0);
 }
 
 // With no row marked, marks and queues the rows of the fan's group g: the fth row that holds v is the fan's fth element. Returns how many they are.
@@ -121,8 +117,7 @@ fn queue_group(
 {
     let mut end = 0;
     let mut f = 0;
-    let mut j = 0;
-    while j < n {
+    for j in 0..n {
         if holds(n, k, v, verts, j) {
             if groups[f] == g {
                 seen[j] = 1;
@@ -131,7 +126,6 @@ fn queue_group(
             }
             f += 1;
         }
-        j += 1;
     }
     end
 }
@@ -170,8 +164,7 @@ fn spread(
         queue.new result }
 {
     let mut end = tail;
-    let mut j = 0;
-    while j < n {
+    for j in 0..n {
         if seen[j] != 1 {
             if touches(n, k, v, verts, i, j) {
                 seen[j] = 1;
@@ -179,7 +172,6 @@ fn spread(
                 end += 1;
             }
         }
-        j += 1;
     }
     end
 }
@@ -200,6 +192,7 @@ fn reaches(
 {
     let mut end = tail;
     let mut head = 0;
+    // The queue grows while it is read, so no range holds its end.
     while head < end {
         if minimum <= end {
             return true;
@@ -238,13 +231,11 @@ pub fn opens_without_confetti(
     ensures { Opens n k v verts.now groups.now count minimum result }
 {
     let least = min_piece(minimum);
-    let mut g = 0;
-    while g < count {
+    for g in 0..count {
         let tail = seed(n, k, v, verts, g, groups, seen, queue);
         if !reaches(n, k, v, verts, tail, least, seen, queue) {
             return false;
         }
-        g += 1;
     }
     true
 }

@@ -100,10 +100,6 @@ pub few_replied : (s : List ℕ) (v : ℕ) (sides t : List ℕ) (lent r : ℕ) (
     → Replied (groups_reply s v sides) lent r out
 few_replied s v sides t lent r out h e f = groups_replied s v (length sides) sides t lent r out (inl (refl, h)) e f
 
-pub few_opens_replied : (s : List ℕ) (v : ℕ) (sides t : List ℕ) (min lent r : ℕ) (out : List ℕ) → length sides ≤ 2049 → t ≡ take (length sides) sides → Replied (question_reply (Opens v min) s t) lent r out
-    → Replied (opens_reply s v sides min) lent r out
-few_opens_replied s v sides t min lent r out h e f = opens_replied s v (length sides) sides t min lent r out (inl (refl, h)) e f
-
 -- ---- a list of particles, in words
 
 -- the reply to it, by whether its bytes are whole words

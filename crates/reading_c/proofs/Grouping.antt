@@ -10,14 +10,17 @@ use lib.Dec.{leb}
 use lib.Seq.{take_at}
 use borrow.Author.Tests.{le-leb}
 use Rattle.lists.specs.Lists.{pick, padded}
+use Rattle.mesh.specs.Refused.{answer_in}
 use Rattle.model.specs.Mesh.{Mesh}
 use Rattle.model.specs.Elements.{kind_of, fan_of, grid_of}
 use Rattle.model.specs.Calls.{sides_ok, refusal}
 use Rattle.model.specs.Reads.{Read, refused, value, or_refused, grouped, groups_call}
 use Rattle.mesh.specs.Given.{mesh_of}
-use Rattle.readings.specs.declared.Count.{Count}
+use Rattle.std.specs.Prelude.{Result}
+use Rattle.mesh.specs.declared.refusals.Refusal.{Refusal}
 use Rattle.readings.specs.Answers.{placed_in, group_count, groups_shown, GroupsAnswered}
 use Rattle.readings.proofs.Grouped.{groups_long, placed_is}
+use Rattle.std.specs.Prelude.{Ok, Err}
 use Rattle.image.specs.Image.{image_of, image_sized_of}
 use Rattle.reading_replies.specs.Replies.{Replied, groups_words}
 use Rattle.reading_replies.specs.Given.{groups_told, SmallCode}
@@ -31,9 +34,6 @@ front_few n l h = omega (arith, length-take n l)
 
 pub few_front : (n : ℕ) (l : List ℕ) → n ≤ 32 → length (take n l) ≤ 128
 few_front n l h = omega (arith, length-take n l)
-
-pub few_most : (n : ℕ) (l : List ℕ) → n ≤ 32 → length (take n l) ≤ 2049
-few_most n l h = front_few n l (omega arith)
 
 -- the same of the front of a table that has a place for each
 pub front_placed : (n places : ℕ) (l : List ℕ) → n ≤ places → places ≤ 2049 → length (take n l) ≤ 2049
@@ -67,30 +67,41 @@ groups_capped s v r sides t h c e =
 
 -- ---- the reply
 
-told_or : (c : ℕ) (gs : List ℕ × ℕ) (n places : ℕ) → length gs.0 ≡ n → groups_told (group_count (or_refused c gs)) (take n (padded places 0 (groups_shown (or_refused c gs)))) ≡ groups_words (or_refused c gs)
-unfolding padded
+-- an answer that says what the model's does is told by the same words
+words_told : Read ℕ → List ℕ → Read (List ℕ)
+words_told (refused n) ws = refused n
+words_told (value n) ws = value (n ∷ ws)
+
+told_by : (a : Result ℕ Refusal) (ws : List ℕ) → groups_told a ws ≡ words_told (answer_in a) ws
+unfolding words_told
+told_by (Ok n) ws = refl
+told_by (Err e) ws = refl
+
+told_or : (c : ℕ) (gs : List ℕ × ℕ) (n places : ℕ) → length gs.0 ≡ n → words_told (group_count (or_refused c gs)) (take n (padded places 0 (groups_shown (or_refused c gs)))) ≡ groups_words (or_refused c gs)
+unfolding padded words_told
 told_or zero gs n places e = ap (λ (l : List ℕ). value (gs.1 ∷ l)) (take_at gs.0 (replicate (places - length gs.0) 0) n e)
 told_or (suc c) gs n places e = refl
 
-call_told : (z : Bool) (M : Mesh) (v : ℕ) (t : List ℕ) (n places : ℕ) → length t ≡ n → groups_told (group_count (groups_call z M v t)) (take n (padded places 0 (groups_shown (groups_call z M v t)))) ≡ groups_words (groups_call z M v t)
+call_told : (z : Bool) (M : Mesh) (v : ℕ) (t : List ℕ) (n places : ℕ) → length t ≡ n → words_told (group_count (groups_call z M v t)) (take n (padded places 0 (groups_shown (groups_call z M v t)))) ≡ groups_words (groups_call z M v t)
 unfolding groups_call grid_of
 call_told z M v t n places e = told_or (refusal z M true (sides_ok M v t)) _ n places (groups_long (grid_of (kind_of M) v (fan_of (kind_of M) M v) t) ∙ e)
 
-small_or : (c : ℕ) (gs : List ℕ × ℕ) (ws : List ℕ) → c < 256 → SmallCode (groups_told (group_count (or_refused c gs)) ws)
+small_or : (c : ℕ) (gs : List ℕ × ℕ) (ws : List ℕ) → c < 256 → SmallCode (words_told (group_count (or_refused c gs)) ws)
+unfolding words_told
 small_or zero gs ws h = omega arith
 small_or (suc c) gs ws h = h
 
-pub groups_small : (z : Bool) (M : Mesh) (v : ℕ) (t : List ℕ) (lent : ℕ) (a : Count) (table ws : List ℕ) → GroupsAnswered (groups_call z M v t) lent a table → SmallCode (groups_told a ws)
+pub groups_small : (z : Bool) (M : Mesh) (v : ℕ) (t : List ℕ) (lent : ℕ) (a : Result ℕ Refusal) (table ws : List ℕ) → GroupsAnswered (groups_call z M v t) lent a table → SmallCode (groups_told a ws)
 groups_small z M v t lent a table ws A =
-    rw (A.answer ∙ ap group_count (placed_is z M v t lent)) (small_or _ _ ws (refusal_small z M true (sides_ok M v t && leb (length t) lent)))
+    rw (told_by a ws) (rw (A.answer ∙ ap group_count (placed_is z M v t lent)) (small_or _ _ ws (refusal_small z M true (sides_ok M v t && leb (length t) lent))))
 
 -- sides that are no more than the table has places
-pub groups_told_lem : (z : Bool) (M : Mesh) (v : ℕ) (t : List ℕ) (places lent r : ℕ) (a : Count) (table out : List ℕ) → length t ≤ places → GroupsAnswered (groups_call z M v t) places a table
+pub groups_told_lem : (z : Bool) (M : Mesh) (v : ℕ) (t : List ℕ) (places lent r : ℕ) (a : Result ℕ Refusal) (table out : List ℕ) → length t ≤ places → GroupsAnswered (groups_call z M v t) places a table
     → Replied (groups_told a (take (length t) table)) lent r out → Replied (groups_words (groups_call z M v t)) lent r out
 groups_told_lem z M v t places lent r a table out m A h =
     let o : Read (List ℕ × ℕ) = groups_call z M v t in
     let q : placed_in places o ≡ o = placed_call z M v t places m in
     replied_as (groups_told a (take (length t) table)) _ lent r out
-    (ap (λ (x : Count). groups_told x (take (length t) table)) (A.answer ∙ ap group_count q)
-    ∙ ap (λ (x : List ℕ). groups_told (group_count o) (take (length t) x)) (A.table_is ∙ ap (λ (x : Read (List ℕ × ℕ)). padded places 0 (groups_shown x)) q)
+    (told_by a (take (length t) table) ∙ ap (λ (x : Read ℕ). words_told x (take (length t) table)) (A.answer ∙ ap group_count q)
+    ∙ ap (λ (x : List ℕ). words_told (group_count o) (take (length t) x)) (A.table_is ∙ ap (λ (x : Read (List ℕ × ℕ)). padded places 0 (groups_shown x)) q)
     ∙ call_told z M v t (length t) places refl) h

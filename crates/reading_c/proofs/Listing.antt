@@ -11,6 +11,7 @@ use lib.Ieee.{Float}
 use borrow.Author.Tests.{ltb-true}
 use Rattle.lists.specs.Lists.{all}
 use Rattle.lists.proofs.Sifts.{and_true}
+use Rattle.mesh.specs.Refused.{answer_in}
 use Rattle.model.specs.Mesh.{Mesh}
 use Rattle.model.specs.Elements.{the_rest_measure_of}
 use Rattle.model.specs.Calls.{present, strictly, particles_ok, refusal}
@@ -18,8 +19,10 @@ use Rattle.model.specs.Reads.{or_refused, rest_measure_of_call}
 use Rattle.mesh.specs.Given.{mesh_of}
 use Rattle.judge.proofs.Joined.{Sized, sizes_told}
 use Rattle.mesh_tables.proofs.Accepted.{particles_count}
-use Rattle.readings.specs.declared.Number.{Number}
-use Rattle.readings.specs.Answers.{number_of}
+use Rattle.std.specs.Prelude.{Result}
+use Rattle.mesh.specs.declared.refusals.Refusal.{Refusal}
+use Rattle.reading_replies.specs.Replies.{number_words}
+use Rattle.reading_replies.proofs.Replying.{number_words_lem}
 use Rattle.image.specs.Words.{words_from}
 use Rattle.image.proofs.InBlocks.{words_long}
 use Rattle.image.specs.Image.{image_of, image_sized_of}
@@ -92,10 +95,10 @@ words_few c = let w = capped_most c in omega arith
 
 -- ---- the reply
 
-small_or : (n : ℕ) (x : Float) → n < 256 → SmallCode (number_reply (number_of (or_refused n x)))
+small_or : (n : ℕ) (x : Float) → n < 256 → SmallCode (number_words ((or_refused n x)))
 small_or zero x h = omega arith
 small_or (suc n) x h = h
 
-pub measure_of_small : (z : Bool) (M : Mesh) (l : List ℕ) (a : Number) → a ≡ number_of (rest_measure_of_call z M l) → SmallCode (number_reply a)
+pub measure_of_small : (z : Bool) (M : Mesh) (l : List ℕ) (a : Result Float Refusal) → answer_in a ≡ rest_measure_of_call z M l → SmallCode (number_reply a)
 unfolding rest_measure_of_call
-measure_of_small z M l a e = rw e (small_or _ _ (refusal_small z M true (particles_ok M l)))
+measure_of_small z M l a e = rw (number_words_lem a) (rw e (small_or _ _ (refusal_small z M true (particles_ok M l))))

@@ -13,21 +13,22 @@ use borrow.Author.Tests.{ne_eqb}
 use Rattle.lists.specs.Lists.{pick, stands, all}
 use Rattle.lists.proofs.Sifts.{sift_length}
 use Rattle.columns.proofs.Sweep.{front_grows}
+use Rattle.mesh.specs.Refused.{answer_in}
 use Rattle.model.specs.Mesh.{Mesh}
 use Rattle.model.specs.Valid.{numbers_fit_of, indices_fit_of}
 use Rattle.model.specs.Elements.{Kind, Triangles, Straps, Nothing, Element, kind_of, elements_of, fan_of}
 use Rattle.model.specs.Calls.{sides_ok, present, refusal}
 use Rattle.model.specs.Split.{opening_of}
 use Rattle.model.specs.Pieces.{opens_without_confetti_of}
-use Rattle.model.specs.Reads.{Read, refused, value, or_refused, opens_call}
+use Rattle.model.specs.Reads.{or_refused, opens_call}
 use Rattle.mesh.specs.At.{triangle_row, triangles_at, mesh_at}
 use Rattle.mesh.specs.Given.{Given, mesh_of}
 use Rattle.judge.proofs.Joined.{Sized, sizes_told}
 use Rattle.mesh.proofs.Lists.{edges_length}
 use Rattle.lists.proofs.Stores.{tab_length}
 use Rattle.elements.proofs.Filling.{triangles_length, straps_length}
-use Rattle.readings.specs.declared.Truth.{Truth}
-use Rattle.readings.specs.Answers.{truth_of}
+use Rattle.std.specs.Prelude.{Result, Ok, Err}
+use Rattle.mesh.specs.declared.refusals.Refusal.{Refusal}
 use Rattle.image.specs.Image.{image_of, image_sized_of}
 use Rattle.reading_replies.specs.Replies.{truth_words}
 use Rattle.reading_replies.specs.Given.{truth_reply, SmallCode}
@@ -144,14 +145,14 @@ opens_capped s v r sides t min h c e =
     (λ y. opens_refused (image_sized_of s) (mesh_of (image_of s)) v t sides min y.0 y.1)
     (capped_sides s v r sides t h c e)
 
-pub truth_words_lem : (o : Read Bool) → truth_reply (truth_of o) ≡ truth_words o
-truth_words_lem (refused n) = refl
-truth_words_lem (value b) = refl
+pub truth_words_lem : (r : Result Bool Refusal) → truth_reply r ≡ truth_words (answer_in r)
+truth_words_lem (Ok b) = refl
+truth_words_lem (Err e) = refl
 
-truth_small : (n : ℕ) (b : Bool) → n < 256 → SmallCode (truth_reply (truth_of (or_refused n b)))
+truth_small : (n : ℕ) (b : Bool) → n < 256 → SmallCode (truth_words (or_refused n b))
 truth_small zero b h = omega arith
 truth_small (suc n) b h = h
 
-pub opens_small : (z : Bool) (M : Mesh) (v : ℕ) (sides : List ℕ) (min : ℕ) (a : Truth) → a ≡ truth_of (opens_call z M v sides min) → SmallCode (truth_reply a)
+pub opens_small : (z : Bool) (M : Mesh) (v : ℕ) (sides : List ℕ) (min : ℕ) (a : Result Bool Refusal) → answer_in a ≡ opens_call z M v sides min → SmallCode (truth_reply a)
 unfolding opens_call
-opens_small z M v sides min a e = rw e (truth_small _ _ (refusal_small z M true (sides_ok M v sides)))
+opens_small z M v sides min a e = rw (truth_words_lem a) (rw e (truth_small _ _ (refusal_small z M true (sides_ok M v sides))))

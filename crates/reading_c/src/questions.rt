@@ -1,20 +1,67 @@
 // A question to a mesh image. Pieces and measures are answered by `tabled`, from its bytes. For the others the image is loaded into local blocks, smaller ones for a small
 // or a middling image, and the public entry that answers is called on their fronts. No other function that reads has such blocks, but for the tiny ones of `tiny`.
-ghost use Rattle.std.specs.Prelude.{◌≡◌, true, ◌≤◌, length};
+ghost use Rattle.std.specs.Prelude.{◌≡◌, true, false, ◌≤◌, length};
 ghost use Rattle.mesh.specs.Given.{mesh_of, sizes_fit_of};
+ghost use Rattle.mesh.specs.Refused.{number_of, refusal_in};
+ghost use Rattle.judge.specs.Checks.{then_check};
 ghost use Rattle.image.specs.Image.{image_sized_of};
 ghost use Rattle.image.specs.Loads.{Loadable};
 ghost use Rattle.reading_replies.specs.Replies.{Replied};
 ghost use Rattle.reading_c.specs.Questions.{question_of, question_call, question_reply};
-ghost use Rattle.image.specs.Small.{small_image, middling_image};
 ghost use Rattle.reading_c.specs.declared.Question.TheVariants.{Groups, Unread};
 ghost use Rattle.mesh.specs.Blocks.{given_before};
 
 use crate::{Asked, Question, tabled};
 use image::small;
 use judge::checks;
+use mesh::refusals::Refusal;
 use reading_replies::reply;
 use readings::grouping;
+
+// The most sides whose groups stand in a small table.
+const FEW_SIDES: usize = small::SIDES;
+
+// The most sides that are asked about.
+const MOST_SIDES: usize = 2049;
+
+// The lengths of the blocks of a small image, which are cleared in a sixteenth of the time.
+const SMALL_POINTS: usize = mesh::POINT_COLUMNS * small::PARTICLES;
+
+const SMALL_ROOTS: usize = mesh::ROOT_COLUMNS * small::PARTICLES;
+
+const SMALL_CORNERS: usize = mesh::CORNER_COLUMNS * small::TRIANGLES;
+
+const SMALL_VOLUMES: usize = mesh::VOLUME_COLUMNS * small::TRIANGLES;
+
+const SMALL_ENDS: usize = mesh::END_COLUMNS * small::EDGES;
+
+const SMALL_OUTLINE: usize = mesh::SIDE_COLUMNS * small::BOUNDARY;
+
+// The lengths of the blocks of a middling image, which are cleared in a quarter of the time.
+const MIDDLING_POINTS: usize = mesh::POINT_COLUMNS * small::MIDDLING_PARTICLES;
+
+const MIDDLING_ROOTS: usize = mesh::ROOT_COLUMNS * small::MIDDLING_PARTICLES;
+
+const MIDDLING_CORNERS: usize = mesh::CORNER_COLUMNS * small::MIDDLING_TRIANGLES;
+
+const MIDDLING_VOLUMES: usize = mesh::VOLUME_COLUMNS * small::MIDDLING_TRIANGLES;
+
+const MIDDLING_ENDS: usize = mesh::END_COLUMNS * small::MIDDLING_EDGES;
+
+const MIDDLING_OUTLINE: usize = mesh::SIDE_COLUMNS * small::MIDDLING_BOUNDARY;
+
+// The lengths of the blocks of the most that a mesh may have.
+const POINTS: usize = mesh::POINT_COLUMNS * mesh::PARTICLES;
+
+const ROOTS: usize = mesh::ROOT_COLUMNS * mesh::PARTICLES;
+
+const CORNERS: usize = mesh::CORNER_COLUMNS * mesh::TRIANGLES;
+
+const VOLUMES: usize = mesh::VOLUME_COLUMNS * mesh::TRIANGLES;
+
+const ENDS: usize = mesh::END_COLUMNS * mesh::EDGES;
+
+const OUTLINE: usize = mesh::SIDE_COLUMNS * mesh::BOUNDARY;
 
 // The groups that sides make at a particle, by a lent table that has a place for each side.
 fn groups_within(
@@ -41,8 +88,8 @@ fn groups_within(
     reply::reply_groups(a, &groups[..n], out)
 }
 
-// The groups that few sides make, as those of a small image are, in a small table.
-pub fn few_groups(
+// The groups that sides make, in a table of its own for N of them.
+pub fn groups_in<const N: usize>(
     v: usize,
     list: &[usize],
     points: &[f32],
@@ -54,44 +101,11 @@ pub fn few_groups(
     outline: &[usize],
     out: &mut [u8],
 ) -> u32
-    requires { length list.now ≤ 128 }
+    requires { (length list.now ≤ N) × (N ≤ 2049) }
     ensures { let G = given_before points roots corners volumes ends lengths outline in
         Replied (question_call (Groups v) (sizes_fit_of G) (mesh_of G) list.now) (length out.old) result out.new }
 {
-    let mut groups = [0usize; small::SIDES];
-    groups_within(
-        v,
-        list,
-        points,
-        roots,
-        corners,
-        volumes,
-        ends,
-        lengths,
-        outline,
-        &mut groups,
-        out,
-    )
-}
-
-// The groups that any sides make, in a table for the most that are asked about.
-fn many_groups(
-    v: usize,
-    list: &[usize],
-    points: &[f32],
-    roots: &[usize],
-    corners: &[usize],
-    volumes: &[f32],
-    ends: &[usize],
-    lengths: &[f32],
-    outline: &[usize],
-    out: &mut [u8],
-) -> u32
-    requires { length list.now ≤ 2049 }
-    ensures { let G = given_before points roots corners volumes ends lengths outline in
-        Replied (question_call (Groups v) (sizes_fit_of G) (mesh_of G) list.now) (length out.old) result out.new }
-{
-    let mut groups = [0usize; 2049];
+    let mut groups = [0usize; N];
     groups_within(
         v,
         list,
@@ -124,14 +138,24 @@ fn ask_groups(
     ensures { let G = given_before points roots corners volumes ends lengths outline in
         Replied (question_call (Groups v) (sizes_fit_of G) (mesh_of G) list.now) (length out.old) result out.new }
 {
-    if list.len() <= small::SIDES {
-        return few_groups(
+    if list.len() <= FEW_SIDES {
+        return groups_in::<FEW_SIDES>(
             v, list, points, roots, corners, volumes, ends, lengths, outline, out,
         );
     }
-    many_groups(
+    groups_in::<MOST_SIDES>(
         v, list, points, roots, corners, volumes, ends, lengths, outline, out,
     )
+}
+
+// What refuses a question that was not read: the fault of the mesh, else a bad argument.
+fn unread(fault: Result<(), Refusal>) -> Refusal
+    ensures { number_of result ≡ then_check (refusal_in fault) false 4 }
+{
+    match fault {
+        Ok(()) => Refusal::Argument,
+        Err(e) => e,
+    }
 }
 
 // A question to the mesh that blocks are.
@@ -164,8 +188,8 @@ fn ask(
             );
         }
         Asked::Unread => {
-            let code = checks::judge(points, roots, corners, volumes, ends, lengths, outline);
-            return replies::reply_refused(judge::tests::first(code, false, 4), out);
+            let fault = checks::judge(points, roots, corners, volumes, ends, lengths, outline);
+            return replies::reply_refused(unread(fault).number(), out);
         }
     }
 }
@@ -217,75 +241,28 @@ fn ask_within(
     )
 }
 
-// A question to a small image, in small blocks: they are cleared in a sixteenth of the time.
-fn ask_small(q: Asked, list: &[usize], bytes: &[u8], out: &mut [u8]) -> u32
-    requires { (image_sized_of bytes.now ≡ true) × (length list.now ≤ 2049) × (small_image bytes.now ≡ true) }
+// A question to an image, in blocks of its own of these lengths: a small or a middling image has small ones, which are cleared sooner.
+fn ask_in<
+    const P: usize,
+    const R: usize,
+    const C: usize,
+    const V: usize,
+    const E: usize,
+    const B: usize,
+>(q: Asked, list: &[usize], bytes: &[u8], out: &mut [u8]) -> u32
+    requires { (image_sized_of bytes.now ≡ true) × (length list.now ≤ 2049)
+        × Loadable bytes.now P R C V E E B
+        × (P ≤ 8192) × (R ≤ 2048) × (C ≤ 3072) × (V ≤ 2048) × (E ≤ 8192) × (B ≤ 4096) }
     ensures { Replied (question_reply (question_of q) bytes.now list.now) (length out.old) result
         out.new }
 {
-    let mut points = [0.0f32; small::PARTICLES * mesh::POINT_COLUMNS];
-    let mut roots = [0usize; 2 * small::PARTICLES];
-    let mut corners = [0usize; 3 * small::TRIANGLES];
-    let mut volumes = [0.0f32; 2 * small::TRIANGLES];
-    let mut ends = [0usize; 4 * small::EDGES];
-    let mut lengths = [0.0f32; 4 * small::EDGES];
-    let mut outline = [0usize; 2 * small::BOUNDARY];
-    ask_within(
-        q,
-        list,
-        bytes,
-        &mut points,
-        &mut roots,
-        &mut corners,
-        &mut volumes,
-        &mut ends,
-        &mut lengths,
-        &mut outline,
-        out,
-    )
-}
-
-// A question to a middling image, in blocks that are cleared in a quarter of the time.
-fn ask_middling(q: Asked, list: &[usize], bytes: &[u8], out: &mut [u8]) -> u32
-    requires { (image_sized_of bytes.now ≡ true) × (length list.now ≤ 2049) × (middling_image bytes.now ≡ true) }
-    ensures { Replied (question_reply (question_of q) bytes.now list.now) (length out.old) result
-        out.new }
-{
-    let mut points = [0.0f32; small::MIDDLING_PARTICLES * mesh::POINT_COLUMNS];
-    let mut roots = [0usize; 2 * small::MIDDLING_PARTICLES];
-    let mut corners = [0usize; 3 * small::MIDDLING_TRIANGLES];
-    let mut volumes = [0.0f32; 2 * small::MIDDLING_TRIANGLES];
-    let mut ends = [0usize; 4 * small::MIDDLING_EDGES];
-    let mut lengths = [0.0f32; 4 * small::MIDDLING_EDGES];
-    let mut outline = [0usize; 2 * small::MIDDLING_BOUNDARY];
-    ask_within(
-        q,
-        list,
-        bytes,
-        &mut points,
-        &mut roots,
-        &mut corners,
-        &mut volumes,
-        &mut ends,
-        &mut lengths,
-        &mut outline,
-        out,
-    )
-}
-
-// A question to any other image, in blocks for the most that a mesh may have.
-fn ask_large(q: Asked, list: &[usize], bytes: &[u8], out: &mut [u8]) -> u32
-    requires { (image_sized_of bytes.now ≡ true) × (length list.now ≤ 2049) }
-    ensures { Replied (question_reply (question_of q) bytes.now list.now) (length out.old) result
-        out.new }
-{
-    let mut points = [0.0f32; mesh::PARTICLES * mesh::POINT_COLUMNS];
-    let mut roots = [0usize; mesh::ROOT_COLUMNS * mesh::PARTICLES];
-    let mut corners = [0usize; mesh::CORNER_COLUMNS * mesh::TRIANGLES];
-    let mut volumes = [0.0f32; mesh::VOLUME_COLUMNS * mesh::TRIANGLES];
-    let mut ends = [0usize; mesh::END_COLUMNS * mesh::EDGES];
-    let mut lengths = [0.0f32; mesh::LENGTH_COLUMNS * mesh::EDGES];
-    let mut outline = [0usize; mesh::SIDE_COLUMNS * mesh::BOUNDARY];
+    let mut points = [0.0f32; P];
+    let mut roots = [0usize; R];
+    let mut corners = [0usize; C];
+    let mut volumes = [0.0f32; V];
+    let mut ends = [0usize; E];
+    let mut lengths = [0.0f32; E];
+    let mut outline = [0usize; B];
     ask_within(
         q,
         list,
@@ -308,9 +285,16 @@ fn ask_larger(q: Asked, list: &[usize], bytes: &[u8], out: &mut [u8]) -> u32
         out.new }
 {
     if small::is_middling(bytes) {
-        return ask_middling(q, list, bytes, out);
+        return ask_in::<
+            MIDDLING_POINTS,
+            MIDDLING_ROOTS,
+            MIDDLING_CORNERS,
+            MIDDLING_VOLUMES,
+            MIDDLING_ENDS,
+            MIDDLING_OUTLINE,
+        >(q, list, bytes, out);
     }
-    ask_large(q, list, bytes, out)
+    ask_in::<POINTS, ROOTS, CORNERS, VOLUMES, ENDS, OUTLINE>(q, list, bytes, out)
 }
 
 // A question to an image that has the sizes of a mesh.
@@ -320,7 +304,14 @@ fn ask_loaded(q: Asked, list: &[usize], bytes: &[u8], out: &mut [u8]) -> u32
         out.new }
 {
     if small::is_small(bytes) {
-        return ask_small(q, list, bytes, out);
+        return ask_in::<
+            SMALL_POINTS,
+            SMALL_ROOTS,
+            SMALL_CORNERS,
+            SMALL_VOLUMES,
+            SMALL_ENDS,
+            SMALL_OUTLINE,
+        >(q, list, bytes, out);
     }
     ask_larger(q, list, bytes, out)
 }

@@ -8,6 +8,7 @@ ghost use Rattle.reading_c.specs.Tiny.{tiny_image};
 ghost use Rattle.reading_c.specs.declared.Question.TheVariants.{Groups};
 
 use crate::{Question, questions};
+use image::small;
 
 // The most particles of a tiny image.
 const PARTICLES: usize = 16;
@@ -26,7 +27,7 @@ fn is_tiny(bytes: &[u8]) -> bool
     requires { 16 ≤ length bytes.now }
     ensures { result ≡ tiny_image bytes.now }
 {
-    image::small::within(bytes, PARTICLES, TRIANGLES, EDGES, BOUNDARY)
+    small::within(bytes, PARTICLES, TRIANGLES, EDGES, BOUNDARY)
 }
 
 // The groups that few sides make in an image that has the sizes of a mesh, by seven lent blocks that have room for it.
@@ -62,7 +63,7 @@ fn groups_loaded(
     image::load(
         bytes, points, roots, corners, volumes, ends, lengths, outline,
     );
-    questions::few_groups(
+    questions::groups_in::<{ small::SIDES }>(
         v,
         list,
         &points[..p8],

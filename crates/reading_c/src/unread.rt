@@ -6,7 +6,7 @@ ghost use Rattle.image.specs.Image.{image_of, image_sized_of};
 
 use crate::Question;
 
-// The refusal of a call beside whose image something could not be read. The reply has no words, so it needs no bytes.
+// The refusal of a call beside whose image something could not be read. The reply has no words, so it needs no bytes. (The C interface has its number.)
 pub fn unread(bytes: &[u8]) -> usize
     ensures { result ≡ refusal (image_sized_of bytes.now) (mesh_of (image_of bytes.now)) true false }
 {

@@ -4,63 +4,63 @@ ghost use Rattle.reading_replies.specs.Replies.{Replied};
 ghost use Rattle.reading_replies.specs.Given.{number_reply, count_reply, groups_told, truth_reply, tested_reply, SmallCode};
 
 use blade::Hit;
-use readings::{Count, Number, Tested, Truth};
+use mesh::refusals::Refusal;
 
 // The reply of an entry that answers a number.
-pub fn reply_number(a: Number, out: &mut [u8]) -> u32
+pub fn reply_number(a: Result<f32, Refusal>, out: &mut [u8]) -> u32
     requires { SmallCode (number_reply a) }
     ensures { Replied (number_reply a) (length out.old) result out.new }
 {
     match a {
-        Number::Refused(code) => {
-            return replies::reply_refused(code, out);
+        Err(e) => {
+            return replies::reply_refused(e.number(), out);
         }
-        Number::Value(x) => {
+        Ok(x) => {
             return replies::reply_one(image_writing::bits_of(x), out);
         }
     }
 }
 
 // The reply of an entry that answers a count.
-pub fn reply_count(a: Count, out: &mut [u8]) -> u32
+pub fn reply_count(a: Result<usize, Refusal>, out: &mut [u8]) -> u32
     requires { SmallCode (count_reply a) }
     ensures { Replied (count_reply a) (length out.old) result out.new }
 {
     match a {
-        Count::Refused(code) => {
-            return replies::reply_refused(code, out);
+        Err(e) => {
+            return replies::reply_refused(e.number(), out);
         }
-        Count::Counted(n) => {
+        Ok(n) => {
             return replies::reply_one(n, out);
         }
     }
 }
 
 // The reply of an entry that answers a count and a table of groups.
-pub fn reply_groups(a: Count, groups: &[usize], out: &mut [u8]) -> u32
+pub fn reply_groups(a: Result<usize, Refusal>, groups: &[usize], out: &mut [u8]) -> u32
     requires { SmallCode (groups_told a groups.now) × (length groups.now ≤ 2049) }
     ensures { Replied (groups_told a groups.now) (length out.old) result out.new }
 {
     match a {
-        Count::Refused(code) => {
-            return replies::reply_refused(code, out);
+        Err(e) => {
+            return replies::reply_refused(e.number(), out);
         }
-        Count::Counted(n) => {
+        Ok(n) => {
             return replies::reply_words(n, groups, out);
         }
     }
 }
 
 // The reply of an entry that answers whether something holds.
-pub fn reply_truth(a: Truth, out: &mut [u8]) -> u32
+pub fn reply_truth(a: Result<bool, Refusal>, out: &mut [u8]) -> u32
     requires { SmallCode (truth_reply a) }
     ensures { Replied (truth_reply a) (length out.old) result out.new }
 {
     match a {
-        Truth::Refused(code) => {
-            return replies::reply_refused(code, out);
+        Err(e) => {
+            return replies::reply_refused(e.number(), out);
         }
-        Truth::Holds(b) => {
+        Ok(b) => {
             if b {
                 return replies::reply_one(1, out);
             }
@@ -70,15 +70,15 @@ pub fn reply_truth(a: Truth, out: &mut [u8]) -> u32
 }
 
 // The reply of a blade test.
-pub fn reply_tested(a: Tested, out: &mut [u8]) -> u32
+pub fn reply_tested(a: Result<Hit, Refusal>, out: &mut [u8]) -> u32
     requires { SmallCode (tested_reply a) }
     ensures { Replied (tested_reply a) (length out.old) result out.new }
 {
     match a {
-        Tested::Refused(code) => {
-            return replies::reply_refused(code, out);
+        Err(e) => {
+            return replies::reply_refused(e.number(), out);
         }
-        Tested::Tested(h) => match h {
+        Ok(h) => match h {
             Hit::Miss => {
                 let none = [0usize; 3];
                 return replies::reply_words(0, &none, out);

@@ -23,6 +23,10 @@ use Rattle.model.specs.Calls.{sides_ok, refusal}
 use Rattle.model.specs.Reads.{Read, refused, value, or_refused, grouped, groups_call, opens_call}
 use Rattle.mesh.specs.Given.{Given, mesh_of, sizes_fit_of}
 use Rattle.mesh.specs.Widths.{point_columns}
+use Rattle.std.specs.Prelude.{Ok, Err}
+use Rattle.mesh.specs.Refused.{number_of}
+use Rattle.mesh.specs.declared.refusals.Refusal.{Refusal}
+use Rattle.mesh.proofs.Refused.{refused_some}
 use Rattle.judge.specs.Checks.{fault_of}
 use Rattle.elements.proofs.Found.{fan_of_lem}
 use Rattle.reach.specs.Opens.{Opens}
@@ -32,9 +36,7 @@ use Rattle.mesh_tables.specs.Fans.{FanOf}
 use Rattle.mesh_tables.proofs.Accepted.{Few}
 use Rattle.mesh_tables.proofs.FanRead.{found_fan}
 use Rattle.readings.specs.Fans.{FanAsked, GroupsFilled, WalkAsked, WalksIn, Roomy}
-use Rattle.readings.specs.Answers.{truth_of, placed_in, group_count, groups_shown, GroupsAnswered}
-use Rattle.readings.specs.declared.Count.TheVariants.{Refused as CountRefused, Counted}
-use Rattle.readings.specs.declared.Truth.TheVariants.{Refused as TruthRefused, Holds}
+use Rattle.readings.specs.Answers.{placed_in, group_count, groups_shown, GroupsAnswered}
 use Rattle.arguments.proofs.Judged.{decided}
 use Rattle.mesh_tables.proofs.Checked.{sides_ok_lem}
 use Rattle.readings.proofs.Refusing.{refuse_by, value_by}
@@ -179,22 +181,22 @@ placed_is z M v sides lent =
 -- what a table of groups and its count answer, where the fan in its table is the definition's
 pub groups_answered : (G : Given) (v : ℕ) (sides : List ℕ) (lent : ℕ) (t : Bool) (F : Fan) (table : List ℕ) (r : ℕ) → fault_of G ≡ 0 → t ≡ (sides_ok (mesh_of G) v sides && leb (length sides) lent) → t ≡ true
     → F ≡ grid_of (kind_of (mesh_of G)) v (fan_of (kind_of (mesh_of G)) (mesh_of G) v) sides → GroupsFilled F lent table r
-    → GroupsAnswered (groups_call (sizes_fit_of G) (mesh_of G) v sides) lent (Counted r) table
+    → GroupsAnswered (groups_call (sizes_fit_of G) (mesh_of G) v sides) lent (Ok r) table
 groups_answered G v sides lent t F table r z e said same filled =
     let F' = grid_of (kind_of (mesh_of G)) v (fan_of (kind_of (mesh_of G)) (mesh_of G) v) sides in
     let o : placed_in lent (groups_call (sizes_fit_of G) (mesh_of G) v sides) ≡ value (grouped F')
     = placed_is (sizes_fit_of G) (mesh_of G) v sides lent ∙ value_by 0 _ (grouped F') (grouped F') (sym (decided G _ z ∙ ap (λ (b : Bool). pick b 0 4) (sym e ∙ said))) refl refl in
     record {
-      answer = ap Counted (filled.count_is ∙ ap count_of same) ∙ sym (ap group_count o);
+      answer = ap value (filled.count_is ∙ ap count_of same) ∙ sym (ap group_count o);
       table_is = filled.table_is ∙ ap (λ (f : Fan). padded lent 0 (groups_of f)) same ∙ sym (ap (λ (x : Read (List ℕ × ℕ)). padded lent 0 (groups_shown x)) o);
     }
 
 -- a refusal: the table is zeroed
-pub groups_refused : (G : Given) (v : ℕ) (sides : List ℕ) (lent code : ℕ) (table : List ℕ) → code ≡ refusal (sizes_fit_of G) (mesh_of G) true (sides_ok (mesh_of G) v sides && leb (length sides) lent) → (code ≡ 0 → ⊥)
-    → table ≡ padded lent 0 [] → GroupsAnswered (groups_call (sizes_fit_of G) (mesh_of G) v sides) lent (CountRefused code) table
-groups_refused G v sides lent code table e h zeroed =
+pub groups_refused : (G : Given) (v : ℕ) (sides : List ℕ) (lent : ℕ) (e : Refusal) (table : List ℕ) → number_of e ≡ refusal (sizes_fit_of G) (mesh_of G) true (sides_ok (mesh_of G) v sides && leb (length sides) lent)
+    → table ≡ padded lent 0 [] → GroupsAnswered (groups_call (sizes_fit_of G) (mesh_of G) v sides) lent (Err e) table
+groups_refused G v sides lent e table same zeroed =
     let F = grid_of (kind_of (mesh_of G)) v (fan_of (kind_of (mesh_of G)) (mesh_of G) v) sides in
-    let o : placed_in lent (groups_call (sizes_fit_of G) (mesh_of G) v sides) ≡ refused code = placed_is (sizes_fit_of G) (mesh_of G) v sides lent ∙ refuse_by code _ (grouped F) e h in
+    let o : placed_in lent (groups_call (sizes_fit_of G) (mesh_of G) v sides) ≡ refused (number_of e) = placed_is (sizes_fit_of G) (mesh_of G) v sides lent ∙ refuse_by (number_of e) _ (grouped F) same (refused_some e) in
     record { answer = sym (ap group_count o); table_is = zeroed ∙ sym (ap (λ (x : Read (List ℕ × ℕ)). padded lent 0 (groups_shown x)) o) }
 
 -- bad arguments are refusal 4
@@ -203,15 +205,15 @@ four_of G t u z e denied = sym (decided G u z ∙ ap (λ (b : Bool). pick b 0 4)
 
 -- the answer of the walk
 pub opens_answered : (G : Given) (v : ℕ) (sides : List ℕ) (minimum : ℕ) (t r : Bool) → fault_of G ≡ 0 → t ≡ sides_ok (mesh_of G) v sides → t ≡ true
-    → r ≡ opens_without_confetti_of (kind_of (mesh_of G)) (mesh_of G) minimum (opening_of (kind_of (mesh_of G)) (mesh_of G) v sides) → Holds r ≡ truth_of (opens_call (sizes_fit_of G) (mesh_of G) v sides minimum)
+    → r ≡ opens_without_confetti_of (kind_of (mesh_of G)) (mesh_of G) minimum (opening_of (kind_of (mesh_of G)) (mesh_of G) v sides) → value r ≡ opens_call (sizes_fit_of G) (mesh_of G) v sides minimum
 unfolding opens_call
-opens_answered G v sides minimum t r z e said q = sym (ap truth_of (value_by 0 _ _ r (sym (decided G _ z ∙ ap (λ (b : Bool). pick b 0 4) (sym e ∙ said))) refl q))
+opens_answered G v sides minimum t r z e said q = sym (value_by 0 _ _ r (sym (decided G _ z ∙ ap (λ (b : Bool). pick b 0 4) (sym e ∙ said))) refl q)
 
 pub opens_refused : (G : Given) (v : ℕ) (sides : List ℕ) (minimum code : ℕ) → code ≡ refusal (sizes_fit_of G) (mesh_of G) true (sides_ok (mesh_of G) v sides) → (code ≡ 0 → ⊥)
-    → TruthRefused code ≡ truth_of (opens_call (sizes_fit_of G) (mesh_of G) v sides minimum)
+    → refused code ≡ opens_call (sizes_fit_of G) (mesh_of G) v sides minimum
 unfolding opens_call
 opens_refused G v sides minimum code e h =
-    sym (ap truth_of (refuse_by code _ (opens_without_confetti_of (kind_of (mesh_of G)) (mesh_of G) minimum (opening_of (kind_of (mesh_of G)) (mesh_of G) v sides)) e h))
+    sym (refuse_by code _ (opens_without_confetti_of (kind_of (mesh_of G)) (mesh_of G) minimum (opening_of (kind_of (mesh_of G)) (mesh_of G) v sides)) e h)
 
 -- what the walk over a found fan answers is the definition's
 pub opens_found : {G : Given} {v n k others count : ℕ} {verts fan_verts : List ℕ} (F : FanFound G v n k others count verts fan_verts) (sides : List ℕ) (minimum : ℕ) (r : Bool)

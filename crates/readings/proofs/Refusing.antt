@@ -25,10 +25,11 @@ use Rattle.mesh_tables.specs.Accepted.{Accepted}
 use Rattle.mesh_tables.proofs.Accepted.{particles_count}
 use Rattle.arguments.proofs.Judged.{arguments_refuse}
 use Rattle.mesh_tables.proofs.Checked.{accepted}
-use Rattle.readings.specs.Answers.{number_of, count_of, tested_of}
-use Rattle.readings.specs.declared.Number.TheVariants.{Refused as NumberRefused, Value}
-use Rattle.readings.specs.declared.Count.TheVariants.{Refused as CountRefused, Counted}
-use Rattle.readings.specs.declared.Tested.TheVariants.{Refused as TestRefused, Tested as TestedAs}
+use Rattle.std.specs.Prelude.{Result}
+use Rattle.std.specs.Result.{IsErrAnd}
+use Rattle.std.proofs.lemmas.Result.{err_from_is_err_and}
+use Rattle.mesh.specs.Refused.{number_of, answer_in}
+use Rattle.mesh.specs.declared.refusals.Refusal.{Refusal}
 
 -- a number that isn't 0 refuses
 pub refuse_by : {A : Type 0} (code m : ℕ) (a : A) → code ≡ m → (code ≡ 0 → ⊥) → or_refused m a ≡ refused code
@@ -39,35 +40,39 @@ refuse_by (suc n) m a e h = rw (sym e) refl
 pub value_by : {A : Type 0} (code m : ℕ) (a b : A) → code ≡ m → code ≡ 0 → b ≡ a → or_refused m a ≡ value b
 value_by code m a b e z q = rw (sym e ∙ z, q) refl
 
+-- the exit of a `?` answers with the refusal that it hands on
+pub answer_handed : {A : Type 0} (r : Result A Refusal) (e : Refusal) → IsErrAnd r (λ d. d ≡ e) → answer_in r ≡ refused (number_of e)
+answer_handed r e h = let p = err_from_is_err_and r h in rw (p.1) (ap (λ (d : Refusal). refused (number_of d)) p.2)
+
 -- ---- the blade test
 
 module _ (B : Line) (p q : Point) (z : Bool) (e : z ≡ (blade_ok B && point_ok p && point_ok q)) where
-  pub blade_refuses : z ≡ false → TestRefused 2 ≡ tested_of (blade_call B p q)
+  pub blade_refuses : z ≡ false → refused 2 ≡ blade_call B p q
   unfolding blade_call
-  blade_refuses f = ap (λ (t : Bool). tested_of (or_refused (pick t 0 2) (blade_hit_of B.from B.to p q))) (sym f ∙ e)
+  blade_refuses f = ap (λ (t : Bool). or_refused (pick t 0 2) (blade_hit_of B.from B.to p q)) (sym f ∙ e)
 
-  pub blade_answers : (r : Hit) → z ≡ true → r ≡ blade_hit_of B.from B.to p q → TestedAs r ≡ tested_of (blade_call B p q)
+  pub blade_answers : (r : Hit) → z ≡ true → r ≡ blade_hit_of B.from B.to p q → value r ≡ blade_call B p q
   unfolding blade_call
-  blade_answers r f g = ap TestedAs g ∙ ap (λ (t : Bool). tested_of (or_refused (pick t 0 2) (blade_hit_of B.from B.to p q))) (sym f ∙ e)
+  blade_answers r f g = ap value g ∙ ap (λ (t : Bool). or_refused (pick t 0 2) (blade_hit_of B.from B.to p q)) (sym f ∙ e)
 
 -- ---- a mesh, with arguments beside it
 
 module _ (G : Given) (code : ℕ) where
-  pub pieces_refuses : code ≡ fault_of G → (code ≡ 0 → ⊥) → CountRefused code ≡ count_of (pieces_call (sizes_fit_of G) (mesh_of G))
+  pub pieces_refuses : code ≡ fault_of G → (code ≡ 0 → ⊥) → refused code ≡ pieces_call (sizes_fit_of G) (mesh_of G)
   unfolding pieces_call
-  pieces_refuses e h = sym (ap count_of (refuse_by code _ (pieces (mesh_of G)) (e ∙ fault_refuses G) h))
+  pieces_refuses e h = sym (refuse_by code _ (pieces (mesh_of G)) (e ∙ fault_refuses G) h)
 
-  pub pieces_answers : (r : ℕ) → code ≡ fault_of G → code ≡ 0 → r ≡ pieces (mesh_of G) → Counted r ≡ count_of (pieces_call (sizes_fit_of G) (mesh_of G))
+  pub pieces_answers : (r : ℕ) → code ≡ fault_of G → code ≡ 0 → r ≡ pieces (mesh_of G) → value r ≡ pieces_call (sizes_fit_of G) (mesh_of G)
   unfolding pieces_call
-  pieces_answers r e z q = sym (ap count_of (value_by code _ (pieces (mesh_of G)) r (e ∙ fault_refuses G) z q))
+  pieces_answers r e z q = sym (value_by code _ (pieces (mesh_of G)) r (e ∙ fault_refuses G) z q)
 
-  pub measure_refuses : code ≡ fault_of G → (code ≡ 0 → ⊥) → NumberRefused code ≡ number_of (rest_measure_call (sizes_fit_of G) (mesh_of G))
+  pub measure_refuses : code ≡ fault_of G → (code ≡ 0 → ⊥) → refused code ≡ rest_measure_call (sizes_fit_of G) (mesh_of G)
   unfolding rest_measure_call
-  measure_refuses e h = sym (ap number_of (refuse_by code _ (rest_measure (mesh_of G)) (e ∙ fault_refuses G) h))
+  measure_refuses e h = sym (refuse_by code _ (rest_measure (mesh_of G)) (e ∙ fault_refuses G) h)
 
-  pub measure_answers : (r : Float) → code ≡ fault_of G → code ≡ 0 → r ≡ rest_measure (mesh_of G) → Value r ≡ number_of (rest_measure_call (sizes_fit_of G) (mesh_of G))
+  pub measure_answers : (r : Float) → code ≡ fault_of G → code ≡ 0 → r ≡ rest_measure (mesh_of G) → value r ≡ rest_measure_call (sizes_fit_of G) (mesh_of G)
   unfolding rest_measure_call
-  measure_answers r e z q = sym (ap number_of (value_by code _ (rest_measure (mesh_of G)) r (e ∙ fault_refuses G) z q))
+  measure_answers r e z q = sym (value_by code _ (rest_measure (mesh_of G)) r (e ∙ fault_refuses G) z q)
 
 -- a list that was tested by the length of the points
 pub listed_ok : (G : Given) (l : List ℕ) (t : Bool) → t ≡ (strictly l && all (λ x. ltb x (length G.points / point_columns)) l) → t ≡ particles_ok (mesh_of G) l
@@ -83,10 +88,10 @@ module _ (G : Given) (code code₀ : ℕ) (t : Bool) (first : code ≡ then_chec
   pub accepted_with : code ≡ 0 → Accepted G × (t ≡ true)
   accepted_with z = let w = then_zero code₀ t 4 (λ q. omega arith) (sym first ∙ z) in (accepted G (sym fault ∙ w.0), w.1)
 
-  pub listed_refuses : (l : List ℕ) → t ≡ particles_ok (mesh_of G) l → (code ≡ 0 → ⊥) → NumberRefused code ≡ number_of (rest_measure_of_call (sizes_fit_of G) (mesh_of G) l)
+  pub listed_refuses : (l : List ℕ) → t ≡ particles_ok (mesh_of G) l → (code ≡ 0 → ⊥) → refused code ≡ rest_measure_of_call (sizes_fit_of G) (mesh_of G) l
   unfolding rest_measure_of_call
-  listed_refuses l e h = sym (ap number_of (refuse_by code _ (the_rest_measure_of (mesh_of G) l) (behind ∙ ap (refusal (sizes_fit_of G) (mesh_of G) true) e) h))
+  listed_refuses l e h = sym (refuse_by code _ (the_rest_measure_of (mesh_of G) l) (behind ∙ ap (refusal (sizes_fit_of G) (mesh_of G) true) e) h)
 
-  pub listed_answers : (l : List ℕ) (r : Float) → t ≡ particles_ok (mesh_of G) l → code ≡ 0 → r ≡ the_rest_measure_of (mesh_of G) l → Value r ≡ number_of (rest_measure_of_call (sizes_fit_of G) (mesh_of G) l)
+  pub listed_answers : (l : List ℕ) (r : Float) → t ≡ particles_ok (mesh_of G) l → code ≡ 0 → r ≡ the_rest_measure_of (mesh_of G) l → value r ≡ rest_measure_of_call (sizes_fit_of G) (mesh_of G) l
   unfolding rest_measure_of_call
-  listed_answers l r e z q = sym (ap number_of (value_by code _ (the_rest_measure_of (mesh_of G) l) r (behind ∙ ap (refusal (sizes_fit_of G) (mesh_of G) true) e) z q))
+  listed_answers l r e z q = sym (value_by code _ (the_rest_measure_of (mesh_of G) l) r (behind ∙ ap (refusal (sizes_fit_of G) (mesh_of G) true) e) z q)

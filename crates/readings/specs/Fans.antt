@@ -1,5 +1,5 @@
 -- What the workers of groups ask of a fan, and give. Only contracts between workers need this file. Definitions only.
-use Rattle.std.specs.Prelude.{ℕ, ◌*◌, ◌/◌, ◌<◌, ◌≤◌, ◌≡◌, List, length, get_or, Float}
+use Rattle.std.specs.Prelude.{ℕ, ◌*◌, ◌/◌, ◌<◌, ◌≤◌, ◌≡◌, List, length, get_or, Float, Result}
 use Rattle.lists.specs.Lists.{padded}
 use Rattle.fan.specs.Fan.{Fan}
 use Rattle.fan.specs.Groups.{groups_of, count_of}
@@ -8,7 +8,7 @@ use Rattle.model.specs.Reads.{groups_call}
 use Rattle.mesh.specs.Given.{given, mesh_of, sizes_fit_of}
 use Rattle.mesh.specs.Widths.{point_columns}
 use Rattle.judge.specs.Checks.{fault_of}
-use Rattle.readings.specs.declared.Count.{Count}
+use Rattle.mesh.specs.declared.refusals.Refusal.{Refusal}
 use Rattle.readings.specs.Answers.{GroupsAnswered}
 
 -- what is asked of a fan: few elements, k corners to each, and for each a side, 0 or 1
@@ -35,7 +35,7 @@ abbrev pub Roomy : ℕ → ℕ → Type 0
 Roomy sides verts = (k : ℕ) → k ≤ 3 → sides * k ≤ 4096 → sides * k ≤ verts
 
 -- the answer of `groups` on any accepted mesh of p particles with these corners and ends, whatever stands in its other blocks
-abbrev pub GroupsBy : ℕ → ℕ → List ℕ → List ℕ → List ℕ → ℕ → Count → List ℕ → Type 0
+abbrev pub GroupsBy : ℕ → ℕ → List ℕ → List ℕ → List ℕ → ℕ → Result ℕ Refusal → List ℕ → Type 0
 GroupsBy p v corners ends sides lent r table =
     (points : List Float) (roots : List ℕ) (volumes lengths : List Float) (outline : List ℕ) → length points / point_columns ≡ p
     → fault_of (given points roots corners volumes ends lengths outline) ≡ 0

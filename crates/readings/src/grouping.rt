@@ -3,23 +3,33 @@ ghost use Rattle.std.specs.Prelude.{◌≡◌, ◌/◌, ◌≤◌, length};
 ghost use Rattle.fan.specs.Fan.{fan};
 ghost use Rattle.fan.specs.Groups.{groups_of, count_of};
 ghost use Rattle.reach.specs.Opens.{Opens};
+ghost use Rattle.mesh.specs.Refused.{answer_in};
 ghost use Rattle.model.specs.Reads.{groups_call, opens_call};
 ghost use Rattle.mesh.specs.Given.{mesh_of, sizes_fit_of};
 ghost use Rattle.judge.specs.Checks.{fault_of};
 ghost use Rattle.readings.specs.Fans.{FanAsked, GroupsFilled, WalkAsked, WalksIn, Roomy, GroupsBy};
-ghost use Rattle.readings.specs.Answers.{GroupsAnswered, truth_of};
+ghost use Rattle.readings.specs.Answers.{GroupsAnswered};
 ghost use Rattle.mesh.specs.Blocks.{given_in, given_before};
 ghost use Rattle.mesh.specs.Widths.{corner_columns, end_columns};
 
-use crate::{Count, Truth};
 use arguments::tests;
+use mesh::refusals::Refusal;
 use mesh_tables::{fans, tables};
 
 // The most sides at a particle whose groups are made by a small table of corners.
 const FEW_SIDES: usize = 16;
 
+// The corners that the elements of few sides may have.
+const FEW_CORNERS: usize = 3 * FEW_SIDES;
+
+// The most corners that a fan may have.
+const MOST_CORNERS: usize = mesh::ELEMENT_CORNERS;
+
 // The most elements that are walked by small tables.
 const FEW_ELEMENTS: usize = 128;
+
+// The most elements that a mesh may have.
+const MOST_ELEMENTS: usize = mesh::ELEMENTS;
 
 // The groups of a fan at the front of a lent table, and 0 behind them. Returns how many groups there are.
 fn fill_groups(
@@ -36,7 +46,7 @@ fn fill_groups(
 {
     let s = sides.len();
     let n = fan_groups::groups_of(verts, k, v, others, sides, &mut groups[..s]);
-    columns::clear_usize(s, groups);
+    columns::clear(s, groups);
     n
 }
 
@@ -49,7 +59,7 @@ fn groups_by(
     sides: &[usize],
     verts: &mut [usize],
     groups: &mut [usize],
-) -> Count
+) -> Result<usize, Refusal>
     requires { (length corners.now / corner_columns ≤ 1024) × (length ends.now / end_columns ≤ 2048) × Roomy (length sides.now)
         (length verts.old) }
     ensures { GroupsBy p v corners.now ends.now sides.now (length groups.old) result
@@ -65,43 +75,26 @@ fn groups_by(
         let k = elements::corners_per(kind);
         let others = elements::facet_others(kind);
         let end = n * k;
-        return Count::Counted(fill_groups(&verts[..end], k, v, others, sides, groups));
+        return Ok(fill_groups(&verts[..end], k, v, others, sides, groups));
     }
-    columns::clear_usize(0, groups);
-    Count::Refused(mesh::refusals::ARGUMENT)
+    columns::clear(0, groups);
+    Err(Refusal::Argument)
 }
 
-// The groups that few sides make, by a small table.
-fn few_groups(
+// The groups of v's fan by a table of its own for N corners, where that is enough for these sides.
+fn groups_in<const N: usize>(
     p: usize,
     v: usize,
     corners: &[usize],
     ends: &[usize],
     sides: &[usize],
     groups: &mut [usize],
-) -> Count
-    requires { (length corners.now / corner_columns ≤ 1024) × (length ends.now / end_columns ≤ 2048) × (length sides.now ≤ 16) }
+) -> Result<usize, Refusal>
+    requires { (length corners.now / corner_columns ≤ 1024) × (length ends.now / end_columns ≤ 2048) × (N ≤ 4096) × Roomy (length sides.now) N }
     ensures { GroupsBy p v corners.now ends.now sides.now (length groups.old) result
         groups.new }
 {
-    let mut verts = [0usize; 3 * FEW_SIDES];
-    groups_by(p, v, corners, ends, sides, &mut verts, groups)
-}
-
-// The groups that any sides make, by a table for the most corners that a fan may have.
-fn many_groups(
-    p: usize,
-    v: usize,
-    corners: &[usize],
-    ends: &[usize],
-    sides: &[usize],
-    groups: &mut [usize],
-) -> Count
-    requires { (length corners.now / corner_columns ≤ 1024) × (length ends.now / end_columns ≤ 2048) }
-    ensures { GroupsBy p v corners.now ends.now sides.now (length groups.old) result
-        groups.new }
-{
-    let mut verts = [0usize; mesh::ELEMENT_CORNERS];
+    let mut verts = [0usize; N];
     groups_by(p, v, corners, ends, sides, &mut verts, groups)
 }
 
@@ -117,21 +110,20 @@ pub fn groups(
     v: usize,
     sides: &[usize],
     groups: &mut [usize],
-) -> Count
+) -> Result<usize, Refusal>
     ensures { let G = given_before points roots corners volumes ends lengths outline in
         GroupsAnswered (groups_call (sizes_fit_of G) (mesh_of G) v sides.now) (length groups.old) result
         groups.new }
 {
-    let code = judge::checks::judge(points, roots, corners, volumes, ends, lengths, outline);
-    if code != 0 {
-        columns::clear_usize(0, groups);
-        return Count::Refused(code);
+    if let Err(e) = judge::checks::judge(points, roots, corners, volumes, ends, lengths, outline) {
+        columns::clear(0, groups);
+        return Err(e);
     }
     let p = points.len() / mesh::POINT_COLUMNS;
     if sides.len() <= FEW_SIDES {
-        return few_groups(p, v, corners, ends, sides, groups);
+        return groups_in::<FEW_CORNERS>(p, v, corners, ends, sides, groups);
     }
-    many_groups(p, v, corners, ends, sides, groups)
+    groups_in::<MOST_CORNERS>(p, v, corners, ends, sides, groups)
 }
 
 // Does each group of a fan reach the minimum piece through the elements of a table? The lent tables hold the groups and the walk.
@@ -158,8 +150,8 @@ fn fan_opens(
     reach::opens_without_confetti(n, k, v, verts, &groups[..s], count, minimum, seen, queue)
 }
 
-// The same among few elements, by small tables.
-fn few_opens(
+// The same by tables of its own for N elements.
+fn opens_in<const N: usize>(
     n: usize,
     k: usize,
     v: usize,
@@ -169,48 +161,14 @@ fn few_opens(
     sides: &[usize],
     minimum: usize,
 ) -> bool
-    requires { FanAsked fan_verts.now k sides.now × (length sides.now ≤ 128) × WalkAsked n k v verts.now (length sides.now)
-        128 128 }
+    requires { FanAsked fan_verts.now k sides.now × (N ≤ 2048) × (length sides.now ≤ N) × WalkAsked n k v verts.now (length sides.now)
+        N N }
     ensures { Opens n k v verts.now (groups_of (fan fan_verts.now k v others sides.now)) (count_of
         (fan fan_verts.now k v others sides.now)) minimum result }
 {
-    let mut groups = [0usize; FEW_ELEMENTS];
-    let mut seen = [0usize; FEW_ELEMENTS];
-    let mut queue = [0usize; FEW_ELEMENTS];
-    fan_opens(
-        n,
-        k,
-        v,
-        others,
-        verts,
-        fan_verts,
-        sides,
-        minimum,
-        &mut groups,
-        &mut seen,
-        &mut queue,
-    )
-}
-
-// The same among any elements of a mesh, by tables for the most.
-fn many_opens(
-    n: usize,
-    k: usize,
-    v: usize,
-    others: usize,
-    verts: &[usize],
-    fan_verts: &[usize],
-    sides: &[usize],
-    minimum: usize,
-) -> bool
-    requires { FanAsked fan_verts.now k sides.now × (length sides.now ≤ 2048) × WalkAsked n k v verts.now (length sides.now)
-        2048 2048 }
-    ensures { Opens n k v verts.now (groups_of (fan fan_verts.now k v others sides.now)) (count_of
-        (fan fan_verts.now k v others sides.now)) minimum result }
-{
-    let mut groups = [0usize; mesh::ELEMENTS];
-    let mut seen = [0usize; mesh::ELEMENTS];
-    let mut queue = [0usize; mesh::ELEMENTS];
+    let mut groups = [0usize; N];
+    let mut seen = [0usize; N];
+    let mut queue = [0usize; N];
     fan_opens(
         n,
         k,
@@ -242,9 +200,9 @@ fn walk_opens(
         (fan fan_verts.now k v others sides.now)) minimum result }
 {
     if n <= FEW_ELEMENTS {
-        return few_opens(n, k, v, others, verts, fan_verts, sides, minimum);
+        return opens_in::<FEW_ELEMENTS>(n, k, v, others, verts, fan_verts, sides, minimum);
     }
-    many_opens(n, k, v, others, verts, fan_verts, sides, minimum)
+    opens_in::<MOST_ELEMENTS>(n, k, v, others, verts, fan_verts, sides, minimum)
 }
 
 // The same of v's fan in an accepted mesh.
@@ -259,10 +217,10 @@ fn mesh_opens(
     v: usize,
     sides: &[usize],
     minimum: usize,
-) -> Truth
+) -> Result<bool, Refusal>
     requires { fault_of (given_in points roots corners volumes ends lengths outline) ≡ 0 }
-    ensures { let G = given_before points roots corners volumes ends lengths outline in result
-        ≡ truth_of (opens_call (sizes_fit_of G) (mesh_of G) v sides.now minimum) }
+    ensures { let G = given_before points roots corners volumes ends lengths outline in
+        answer_in result ≡ opens_call (sizes_fit_of G) (mesh_of G) v sides.now minimum }
 {
     let mut verts = [0usize; mesh::ELEMENT_CORNERS];
     let mut fan_verts = [0usize; mesh::ELEMENT_CORNERS];
@@ -282,7 +240,7 @@ fn mesh_opens(
     let fan = f.fan;
     if tests::sides_fit(v, points.len() / mesh::POINT_COLUMNS, sides, fan) {
         let end = fan * k;
-        return Truth::Holds(walk_opens(
+        return Ok(walk_opens(
             f.n,
             k,
             v,
@@ -293,7 +251,7 @@ fn mesh_opens(
             minimum,
         ));
     }
-    Truth::Refused(mesh::refusals::ARGUMENT)
+    Err(Refusal::Argument)
 }
 
 // Does each group that these sides make at v reach the minimum piece? 4 for an absent particle or bad sides.
@@ -308,14 +266,11 @@ pub fn opens_without_confetti(
     v: usize,
     sides: &[usize],
     minimum: usize,
-) -> Truth
-    ensures { let G = given_before points roots corners volumes ends lengths outline in result
-        ≡ truth_of (opens_call (sizes_fit_of G) (mesh_of G) v sides.now minimum) }
+) -> Result<bool, Refusal>
+    ensures { let G = given_before points roots corners volumes ends lengths outline in
+        answer_in result ≡ opens_call (sizes_fit_of G) (mesh_of G) v sides.now minimum }
 {
-    let code = judge::checks::judge(points, roots, corners, volumes, ends, lengths, outline);
-    if code != 0 {
-        return Truth::Refused(code);
-    }
+    judge::checks::judge(points, roots, corners, volumes, ends, lengths, outline)?;
     mesh_opens(
         points, roots, corners, volumes, ends, lengths, outline, v, sides, minimum,
     )

@@ -1,41 +1,40 @@
 // The entries that only read a mesh: pieces, measures.
 ghost use Rattle.std.specs.Prelude.{◌≡◌, true, ◌/◌, length};
+ghost use Rattle.mesh.specs.Refused.{answer_in};
 ghost use Rattle.model.specs.Elements.{the_rest_measure_of};
 ghost use Rattle.model.specs.Pieces.{pieces as pieces_of};
 ghost use Rattle.model.specs.Calls.{particles_ok};
 ghost use Rattle.model.specs.Reads.{root_call, blade_call, pieces_call, rest_measure_call, rest_measure_of_call};
 ghost use Rattle.mesh.specs.Given.{mesh_of, sizes_fit_of};
 ghost use Rattle.mesh_tables.specs.Accepted.{Accepted};
-ghost use Rattle.readings.specs.Answers.{number_of, count_of, tested_of};
 ghost use Rattle.mesh.specs.Blocks.{given_in, given_before};
 
-use crate::{Count, Number, Tested};
 use arguments::tests;
-use blade::Point;
-use float::root::Rooted;
+use blade::{Hit, Point};
+use mesh::refusals::Refusal;
 
 // The root of a number: 4 where it is below 0 or not finite.
-pub fn root(x: f32) -> Number
-    ensures { result ≡ number_of (root_call x) }
+pub fn root(x: f32) -> Result<f32, Refusal>
+    ensures { answer_in result ≡ root_call x }
 {
     let r = float::root::root(x);
     match r {
-        Rooted::Value(y) => Number::Value(y),
-        Rooted::Refused => Number::Refused(mesh::refusals::ARGUMENT),
+        Some(y) => Ok(y),
+        None => Err(Refusal::Argument),
     }
 }
 
 // The blade from b0 to b1 on the edge from p to q: 2 where a number is out of range.
-pub fn blade_hit(b0: Point, b1: Point, p: Point, q: Point) -> Tested
-    ensures { result ≡ tested_of (blade_call (record { from = b0; to = b1 }) p q) }
+pub fn blade_hit(b0: Point, b1: Point, p: Point, q: Point) -> Result<Hit, Refusal>
+    ensures { answer_in result ≡ blade_call (record { from = b0; to = b1 }) p q }
 {
     let z = judge::tests::both(tests::point_fits(b0), tests::point_fits(b1));
     let z = judge::tests::both(z, tests::point_fits(p));
     let z = judge::tests::both(z, tests::point_fits(q));
     if z {
-        return Tested::Tested(blade::blade_hit(b0, b1, p, q));
+        return Ok(blade::blade_hit(b0, b1, p, q));
     }
-    Tested::Refused(mesh::refusals::NUMBER)
+    Err(Refusal::Number)
 }
 
 // How many pieces an accepted mesh has.
@@ -81,15 +80,12 @@ pub fn pieces(
     ends: &[usize],
     lengths: &[f32],
     outline: &[usize],
-) -> Count
-    ensures { let G = given_before points roots corners volumes ends lengths outline in result
-        ≡ count_of (pieces_call (sizes_fit_of G) (mesh_of G)) }
+) -> Result<usize, Refusal>
+    ensures { let G = given_before points roots corners volumes ends lengths outline in
+        answer_in result ≡ pieces_call (sizes_fit_of G) (mesh_of G) }
 {
-    let code = judge::checks::judge(points, roots, corners, volumes, ends, lengths, outline);
-    if code != 0 {
-        return Count::Refused(code);
-    }
-    Count::Counted(count_pieces(points, roots, corners, volumes, ends, lengths, outline))
+    judge::checks::judge(points, roots, corners, volumes, ends, lengths, outline)?;
+    Ok(count_pieces(points, roots, corners, volumes, ends, lengths, outline))
 }
 
 // The measure of a mesh.
@@ -101,15 +97,12 @@ pub fn rest_measure(
     ends: &[usize],
     lengths: &[f32],
     outline: &[usize],
-) -> Number
-    ensures { let G = given_before points roots corners volumes ends lengths outline in result
-        ≡ number_of (rest_measure_call (sizes_fit_of G) (mesh_of G)) }
+) -> Result<f32, Refusal>
+    ensures { let G = given_before points roots corners volumes ends lengths outline in
+        answer_in result ≡ rest_measure_call (sizes_fit_of G) (mesh_of G) }
 {
-    let code = judge::checks::judge(points, roots, corners, volumes, ends, lengths, outline);
-    if code != 0 {
-        return Number::Refused(code);
-    }
-    Number::Value(mesh_tables::measures::whole_measure(
+    judge::checks::judge(points, roots, corners, volumes, ends, lengths, outline)?;
+    Ok(mesh_tables::measures::whole_measure(
         points, roots, corners, volumes, ends, lengths, outline,
     ))
 }
@@ -158,17 +151,15 @@ pub fn rest_measure_of(
     lengths: &[f32],
     outline: &[usize],
     list: &[usize],
-) -> Number
-    ensures { let G = given_before points roots corners volumes ends lengths outline in result
-        ≡ number_of (rest_measure_of_call (sizes_fit_of G) (mesh_of G) list.now) }
+) -> Result<f32, Refusal>
+    ensures { let G = given_before points roots corners volumes ends lengths outline in
+        answer_in result ≡ rest_measure_of_call (sizes_fit_of G) (mesh_of G) list.now }
 {
-    let code = judge::checks::judge(points, roots, corners, volumes, ends, lengths, outline);
-    let ok = tests::rising_below(list, points.len() / mesh::POINT_COLUMNS);
-    let code = judge::tests::first(code, ok, 4);
-    if code != 0 {
-        return Number::Refused(code);
+    judge::checks::judge(points, roots, corners, volumes, ends, lengths, outline)?;
+    if !tests::rising_below(list, points.len() / mesh::POINT_COLUMNS) {
+        return Err(Refusal::Argument);
     }
-    Number::Value(listed_measure(
+    Ok(listed_measure(
         points, roots, corners, volumes, ends, lengths, outline, list,
     ))
 }

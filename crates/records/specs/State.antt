@@ -1,10 +1,11 @@
--- Records as the model's particles, and the model's answer as this crate's enum. Definitions only.
-use Rattle.std.specs.Prelude.{Bool, List, map}
+-- Records as the model's particles, and this crate's answer as the model's. Definitions only.
+use Rattle.std.specs.Prelude.{Bool, List, map, Result, Ok, Err}
 use Rattle.model.specs.Mesh.{Particle as Model}
 use Rattle.model.specs.Reads.{Read, refused, value}
+use Rattle.mesh.specs.Refused.{number_of}
+use Rattle.mesh.specs.declared.refusals.Refusal.{Refusal}
 use Rattle.records.specs.declared.Particle.{Particle}
 use Rattle.records.specs.declared.State.{State}
-use Rattle.records.specs.declared.State.TheVariants.{Refused, Told}
 
 -- a record as the model's particle: field by field
 abbrev pub particle_of : Particle → Model
@@ -27,6 +28,6 @@ abbrev pub particles_of : List Particle → List Model
 particles_of ps = map particle_of ps
 
 -- the answer of the call: a refusal's number, or pinned and damaged
-abbrev pub state_of : Read (Bool × Bool) → State
-state_of (refused n) = Refused n
-state_of (value told) = Told told.0 told.1
+abbrev pub state_in : Result State Refusal → Read (Bool × Bool)
+state_in (Ok s) = value (s.pinned, s.damaged)
+state_in (Err e) = refused (number_of e)

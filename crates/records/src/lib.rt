@@ -5,7 +5,9 @@ ghost use Rattle.std.specs.Prelude.{◌≡◌, eqb};
 ghost use Rattle.std.specs.Float.Ieee.{eq};
 ghost use Rattle.float.specs.Numbers.{zero32};
 ghost use Rattle.model.specs.Reads.{state_call};
-ghost use Rattle.records.specs.State.{state_of, particles_of};
+ghost use Rattle.records.specs.State.{state_in, particles_of};
+
+use mesh::refusals::Refusal;
 
 // A particle as one record: position, rest position, mass, inverse mass (0 means pinned), velocity, root, damaged flag.
 #[derive(Clone, Copy)]
@@ -22,27 +24,30 @@ pub struct Particle {
     pub damaged: usize,
 }
 
-// A refusal's number, or what is told of a particle: is it pinned, and is it damaged.
+// What is told of a particle: is it pinned, and is it damaged.
 #[derive(Clone, Copy)]
-pub enum State {
-    Refused(usize),
-    Told(bool, bool),
+pub struct State {
+    pub pinned: bool,
+    pub damaged: bool,
 }
 
 // What a record's inverse mass and damaged flag tell.
 fn told(inv: f32, damaged: usize) -> State
-    ensures { result ≡ State.Told (eq inv zero32) (eqb damaged 1) }
+    ensures { result ≡ record { pinned = eq inv zero32; damaged = eqb damaged 1 } }
 {
-    State::Told(inv == 0.0, damaged == 1)
+    State {
+        pinned: inv == 0.0,
+        damaged: damaged == 1,
+    }
 }
 
 // Is particle v pinned, and is it damaged: 4 where there is no such particle.
-pub fn particle_state(particles: &[Particle], v: usize) -> State
-    ensures { result ≡ state_of (state_call (particles_of particles.now) v) }
+pub fn particle_state(particles: &[Particle], v: usize) -> Result<State, Refusal>
+    ensures { state_in result ≡ state_call (particles_of particles.now) v }
 {
     if particles.len() <= v {
-        return State::Refused(4);
+        return Err(Refusal::Argument);
     }
     let p = &particles[v];
-    told(p.inv, p.damaged)
+    Ok(told(p.inv, p.damaged))
 }

@@ -24,13 +24,6 @@ struct Call {
     refusal: usize,
 }
 
-// A call, or the end of the list.
-#[derive(Drop)]
-enum Step {
-    Call(Call),
-    End,
-}
-
 // Room for one call.
 fn room() -> [u8; 98304]
     ensures { 98304 ≡ length result }
@@ -83,22 +76,22 @@ fn call_of(head: &[u8]) -> Call {
 }
 
 // Reads the next call of the list, its parts into the lent bytes. A list that ends within a call, or a call that they do not hold, is the end too.
-fn next_call<R: Read>(list: &mut R, bytes: &mut [u8]) -> io::Result<Step> {
+fn next_call<R: Read>(list: &mut R, bytes: &mut [u8]) -> io::Result<Option<Call>> {
     let mut head = [0u8; 44];
     let n = streams::read_full(list, &mut head)?;
     if n < 44 {
-        return Ok(Step::End);
+        return Ok(None);
     }
     let c = call_of(&head);
     let next = c.next;
     if bytes.len() < next {
-        return Ok(Step::End);
+        return Ok(None);
     }
     let m = streams::read_full(list, &mut bytes[..next])?;
     if m < next {
-        return Ok(Step::End);
+        return Ok(None);
     }
-    Ok(Step::Call(c))
+    Ok(Some(c))
 }
 
 // Asks the C function of this kind, one that reads, and returns its refusal number.
@@ -206,29 +199,16 @@ fn answer(
 
 // Do the bytes of out stand in want, and 0 behind them?
 fn same(want: &[u8], out: &[u8]) -> bool {
-    let mut i: usize = 0;
-    while i < out.len() {
-        if i < want.len() {
-            if out[i] != want[i] {
-                return false;
-            }
-        } else {
-            if out[i] != 0 {
-                return false;
-            }
-        }
-        i += 1;
+    if out.len() < want.len() {
+        return false;
     }
-    want.len() <= out.len()
+    let (front, rest) = out.split_at(want.len());
+    front == want && rest.iter().all(|b| *b == 0)
 }
 
 // Puts another byte than 0 into each place, so that what an answer leaves alone is seen.
 fn soil(bytes: &mut [u8]) {
-    let mut i: usize = 0;
-    while i < bytes.len() {
-        bytes[i] = 170;
-        i += 1;
-    }
+    bytes.fill(170);
 }
 
 // Is the answer to this call, with these bytes lent for result and log, the one that the list has?
@@ -354,17 +334,17 @@ fn replay<R: Read>(
 ) -> io::Result<()> {
     let mut calls: usize = 0;
     let mut passed: usize = 0;
-    while calls < 100000 {
+    for number in 0..100000usize {
         let s = next_call(list, bytes)?;
-        let Step::Call(c) = s else {
+        let Some(c) = s else {
             break;
         };
         if tried(bytes, c, out, log) {
             passed += 1;
         } else {
-            differs(rt, calls)?;
+            differs(rt, number)?;
         }
-        calls += 1;
+        calls = number + 1;
     }
     println!(rt; "{passed} of {calls} calls answered as the Rust does")
 }

@@ -5,7 +5,7 @@ ghost use Rattle.std.specs.Prelude.{◌<◌, ◌≤◌, [], ◌∷◌, length};
 ghost use Rattle.model.specs.Reads.{refused, value};
 ghost use Rattle.replies.specs.Reply.{Replied};
 
-// A refusal: every byte is 0.
+// A refusal: every byte is 0. (The C interface has its number.)
 pub fn reply_refused(code: usize, out: &mut [u8]) -> u32
     requires { code < 256 }
     ensures { Replied (refused code) (length out.old) result out.new }

@@ -32,8 +32,7 @@ use Rattle.work.specs.Rows.{GrownTo, Between}
 use Rattle.mesh.specs.Workers.{row_at}
 use Rattle.copies.specs.Ends.{EndsMoved}
 use Rattle.rewire.specs.Edges.{SameRows, CopiesGrown, EdgeSettled, NextNamed}
-use Rattle.work.specs.declared.Grown.{Grown}
-use Rattle.work.specs.declared.Grown.TheVariants.{Lacking, Rows}
+use Rattle.std.specs.Prelude.{Option, None, Some}
 use Rattle.work.proofs.Grows.{grown_all, edges_many, edges_get}
 
 -- ---- rows of the edges
@@ -154,7 +153,7 @@ module _ {e : Edge} {x from v before k n count m room : ℕ} {verts groups ends�
       }
 
   -- a copy has no room
-  pub growing_lacks : g < count → rows ≡ room → CopiesGrown e x from v before k n count m room verts groups ends₀ ends lengths₀ lengths Lacking
+  pub growing_lacks : g < count → rows ≡ room → CopiesGrown e x from v before k n count m room verts groups ends₀ ends lengths₀ lengths None
   growing_lacks h l =
       record {
         copies =
@@ -167,7 +166,7 @@ module _ {e : Edge} {x from v before k n count m room : ℕ} {verts groups ends�
       }
 
   -- every copy was appended
-  pub growing_done : count ≤ g → CopiesGrown e x from v before k n count m room verts groups ends₀ ends lengths₀ lengths (Rows rows)
+  pub growing_done : count ≤ g → CopiesGrown e x from v before k n count m room verts groups ends₀ ends lengths₀ lengths (Some rows)
   growing_done h =
       record {
         copies =
@@ -197,23 +196,23 @@ fold_tab_keeps P f (suc n) g h b p =
     fold_tab_keeps P f n (λ k. g (suc k)) (λ k l. h (suc k) (suc-le-suc l)) (f b (g 0)) (h 0 (suc-le-suc zero-le) b p)
 
 -- a group that is 0 or some group
-abbrev Some : ℕ → ℕ → Type 0
-Some c g = (g ≡ 0) ⊎ (g < c)
+abbrev SomeGroup : ℕ → ℕ → Type 0
+SomeGroup c g = (g ≡ 0) ⊎ (g < c)
 
-scored_some : (c : ℕ) (M : Mesh) (v : ℕ) (dir : Point) (b : Best) (p : Part) → p.group < c → Some c b.group → Some c (scored M v dir b p).group
+scored_some : (c : ℕ) (M : Mesh) (v : ℕ) (dir : Point) (b : Best) (p : Part) → p.group < c → SomeGroup c b.group → SomeGroup c (scored M v dir b p).group
 unfolding scored
 scored_some c M v dir b p h s =
-    fold_keeps (λ (q : Best). Some c q.group) (λ (q : Best) w. better q (score_of M v dir w) p.group)
-    (λ q w r. pick_by (λ (z : Best). Some c z.group) (lt q.score (score_of M v dir w)) {x = record { score = score_of M v dir w; group = p.group }} {y = q} (inr h) r)
+    fold_keeps (λ (q : Best). SomeGroup c q.group) (λ (q : Best) w. better q (score_of M v dir w) p.group)
+    (λ q w r. pick_by (λ (z : Best). SomeGroup c z.group) (lt q.score (score_of M v dir w)) {x = record { score = score_of M v dir w; group = p.group }} {y = q} (inr h) r)
     b (besides v p.corners) s
 
-pub toward_some : {k n : ℕ} {verts groups : List ℕ} (M : Mesh) (O : Opening) (x : ℕ) → Ringed k O n verts groups → Some O.count (toward M O x)
+pub toward_some : {k n : ℕ} {verts groups : List ℕ} (M : Mesh) (O : Opening) (x : ℕ) → Ringed k O n verts groups → SomeGroup O.count (toward M O x)
 unfolding toward
 toward_some {k} {n} M O x R =
     let dir = sum_of (minus_of (rest_of M x) (rest_of M O.v) ∷ []) in
     let none : Best = record { score = neg largest; group = 0 } in
-    subst (λ (l : List Part). Some O.count (fold (scored M O.v dir) none l).group) (sym (fan_tab O n R.size))
-    (fold_tab_keeps (λ (q : Best). Some O.count q.group) (scored M O.v dir) n (part_at O)
+    subst (λ (l : List Part). SomeGroup O.count (fold (scored M O.v dir) none l).group) (sym (fan_tab O n R.size))
+    (fold_tab_keeps (λ (q : Best). SomeGroup O.count q.group) (scored M O.v dir) n (part_at O)
     (λ i l b s. scored_some O.count M O.v dir b (part_at O i) (omega (arith, R.below i l, R.group_is i l)) s) none (inl refl))
 
 -- ---- one edge
@@ -272,7 +271,7 @@ groups_none M O x e = ap (λ (s : List ℕ). or_else s (toward M O x ∷ [])) e
 module _ (K : Kind) (i v before k n count p m room : ℕ) (verts groups : List ℕ) (points : List Float) (ends : List ℕ) (lengths : List Float) (inside : i < m) (few : m ≤ room) (wide : room ≤ length ends / 4) where
   -- an edge that is no other edge
   pub settled_none : not (element? K (row_at ends lengths i)) && stands v (ends_of (row_at ends lengths i)) ≡ false
-      → EdgeSettled K i v before k n count p m room verts groups points ends ends lengths lengths (Rows m)
+      → EdgeSettled K i v before k n count p m room verts groups points ends ends lengths lengths (Some m)
   settled_none h =
       record {
         settled =
@@ -302,7 +301,7 @@ module _ (K : Kind) (i v before k n count p m room : ℕ) (verts groups : List �
         (sym (doubled_to K M O v before e at first g l other q'))
 
     -- an edge whose far end has groups
-    pub settled_some : (g : ℕ) (ends' : List ℕ) (lengths' : List Float) (r : Grown) (e : Edge) → e ≡ row_at ends lengths i → NextGroup x 0 count n k verts groups g → g < count → CopyIs v before count g w
+    pub settled_some : (g : ℕ) (ends' : List ℕ) (lengths' : List Float) (r : Option ℕ) (e : Edge) → e ≡ row_at ends lengths i → NextGroup x 0 count n k verts groups g → g < count → CopyIs v before count g w
         → CopiesGrown e x (g + 1) v before k n count m room verts groups ends₁ ends' lengths lengths' r
         → EdgeSettled K i v before k n count p m room verts groups points ends ends' lengths lengths' r
     settled_some g ends' lengths' r e at_row N h C G₀ =
@@ -322,7 +321,7 @@ module _ (K : Kind) (i v before k n count p m room : ℕ) (verts groups : List �
     -- an edge whose far end has none goes to the group that points to it
     pub settled_toward : (f g : ℕ) → NextGroup x 0 count n k verts groups f → count ≤ f → CopyIs v before count g w
         → ((O : Opening) (M : Mesh) → OpeningIn O M v before k n count p verts groups points → g ≡ toward M O x)
-        → EdgeSettled K i v before k n count p m room verts groups points ends ends₁ lengths lengths (Rows m)
+        → EdgeSettled K i v before k n count p m room verts groups points ends ends₁ lengths lengths (Some m)
     settled_toward f g N h C T =
         record {
           settled =
@@ -330,7 +329,7 @@ module _ (K : Kind) (i v before k n count p m room : ℕ) (verts groups : List �
               let R = I.ringed in
               let none : ring O x ≡ [] = sym (ring_first O x) ∙ walk_end O 0 x count f I.count_is (N.is O R I.count_is) h in
               let t = T O M I in
-              let some : Some count g = subst (λ (c : ℕ). Some c g) I.count_is (subst (Some O.count) (sym t) (toward_some M O x R)) in
+              let some : SomeGroup count g = subst (λ (c : ℕ). SomeGroup c g) I.count_is (subst (SomeGroup O.count) (sym t) (toward_some M O x R)) in
               grown_all m room _ (λ q. edges_at q ends₁ lengths) (edges_many m ends₁ lengths) few
               (sym (append-nil _)
               ∙ moved_list M O g [] I.at I.before_is (groups_none M O x none ∙ ap (λ (z : ℕ). z ∷ []) (sym t)) (C.is some));
@@ -429,7 +428,7 @@ module _ (K : Kind) (v before k n count p e room : ℕ) (verts groups : List ℕ
 
   module _ (ends : List ℕ) (lengths : List Float) (rows i : ℕ) (P : Passing K v before k n count p e room verts groups points ends₀ ends lengths₀ lengths rows i) where
     -- after all edges
-    pub passing_done : e ≤ i → EdgesGrown K v before k n count p e room verts groups points ends₀ ends lengths₀ lengths (Rows rows)
+    pub passing_done : e ≤ i → EdgesGrown K v before k n count p e room verts groups points ends₀ ends lengths₀ lengths (Some rows)
     unfolding other_edges
     passing_done h =
         let in_all = P.inside in
@@ -443,7 +442,7 @@ module _ (K : Kind) (v before k n count p e room : ℕ) (verts groups : List ℕ
               ∙ passed_end (stayed K M O) (doubled K M O) (edges_at e ends₀ lengths₀));
         }
 
-    module _ (b : i < e) (r : Grown) (ends' : List ℕ) (lengths' : List Float) (S : EdgeSettled K i v before k n count p rows room verts groups points ends ends' lengths lengths' r) where
+    module _ (b : i < e) (r : Option ℕ) (ends' : List ℕ) (lengths' : List Float) (S : EdgeSettled K i v before k n count p rows room verts groups points ends ends' lengths lengths' r) where
       -- what one more edge makes of the list
       more : (O : Opening) (M : Mesh) → OpeningIn O M v before k n count p verts groups points
           → set (edges_at rows ends lengths) i (stayed K M O (row_at ends lengths i)) ++ doubled K M O (row_at ends lengths i)
@@ -455,14 +454,14 @@ module _ (K : Kind) (v before k n count p e room : ℕ) (verts groups : List ℕ
           ∙ passed_step (stayed K M O) (doubled K M O) E i blank_edge (omega (arith, edges_many e ends₀ lengths₀))
 
       -- a copy has no room
-      pub passing_lacks : r ≡ Lacking → EdgesGrown K v before k n count p e room verts groups points ends₀ ends' lengths₀ lengths' Lacking
+      pub passing_lacks : r ≡ None → EdgesGrown K v before k n count p e room verts groups points ends₀ ends' lengths₀ lengths' None
       unfolding other_edges
       passing_lacks q =
           record {
             edges =
                 λ O M I.
                 let E = edges_at e ends₀ lengths₀ in
-                let lacks = subst (λ (z : Grown). GrownTo z room (set (edges_at rows ends lengths) i (stayed K M O (row_at ends lengths i)) ++ doubled K M O (row_at ends lengths i)) (λ m. edges_at m ends' lengths')) q (S.settled O M I) in
+                let lacks = subst (λ (z : Option ℕ). GrownTo z room (set (edges_at rows ends lengths) i (stayed K M O (row_at ends lengths i)) ++ doubled K M O (row_at ends lengths i)) (λ m. edges_at m ends' lengths')) q (S.settled O M I) in
                 let low = leb-false _ room lacks in
                 let is = ap length (more O M I) in
                 lt-leb (length (map (stayed K M O) E ++ each (doubled K M O) E)) room
@@ -470,14 +469,14 @@ module _ (K : Kind) (v before k n count p e room : ℕ) (verts groups : List ℕ
           }
 
       -- the copies had room
-      pub passing_step : (m : ℕ) → r ≡ Rows m → length ends' ≡ length ends → length lengths' ≡ length lengths → Passing K v before k n count p e room verts groups points ends₀ ends' lengths₀ lengths' m (i + 1)
+      pub passing_step : (m : ℕ) → r ≡ Some m → length ends' ≡ length ends → length lengths' ≡ length lengths → Passing K v before k n count p e room verts groups points ends₀ ends' lengths₀ lengths' m (i + 1)
       passing_step m q le ll =
           let between = subst (Between rows room) q S.between in
           let low = P.least in
           record {
             edges =
                 λ O M I.
-                (subst (λ (z : Grown). GrownTo z room (set (edges_at rows ends lengths) i (stayed K M O (row_at ends lengths i)) ++ doubled K M O (row_at ends lengths i)) (λ j. edges_at j ends' lengths')) q (S.settled O M I)).2
+                (subst (λ (z : Option ℕ). GrownTo z room (set (edges_at rows ends lengths) i (stayed K M O (row_at ends lengths i)) ++ doubled K M O (row_at ends lengths i)) (λ j. edges_at j ends' lengths')) q (S.settled O M I)).2
                 ∙ more O M I;
             ahead = λ j a c. S.others j (omega arith) (λ z. omega arith) ∙ P.ahead j (omega arith) c;
             inside = omega arith;
@@ -514,7 +513,7 @@ module _ {K : Kind} {v before k n count p e room : ℕ} {verts groups : List ℕ
       let least = P.least in
       let long = P.ends_long in
       subst (λ (j : ℕ). Passing K v before k n count p e room verts groups points ends₀ ends lengths₀ lengths rows j) z
-      (passing_step K v before k n count p e room verts groups points ends₀ lengths₀ ends lengths rows (i + d) Q (omega arith) (Rows rows) ends lengths
+      (passing_step K v before k n count p e room verts groups points ends₀ lengths₀ ends lengths rows (i + d) Q (omega arith) (Some rows) ends lengths
       (settled_none K (i + d) v before k n count p rows room verts groups points ends lengths (omega arith) P.most (omega arith) (unnamed_none K v (i + d) ends lengths (h (i + d) (omega arith) (omega arith))))
       rows refl refl refl)
 

@@ -32,9 +32,8 @@ use Rattle.link_changes.proofs.Chained.{moved_here, moved_row, moved_column}
 use Rattle.link_changes.proofs.Edged.{pairs_append_room, pairs_appended, pairs_move_room, pairs_moved}
 use Rattle.links.proofs.Gaps.{Gap, stop_of, stop_first, stop_read, stop_end, stop_here}
 use Rattle.split_plan.specs.Answers.{CopyIs}
-use Rattle.work.specs.declared.Grown.{Grown}
+use Rattle.std.specs.Prelude.{Option, Some}
 use Rattle.work.proofs.Grows.{edges_many, edges_get}
-use Rattle.work.specs.declared.Grown.TheVariants.{Rows}
 use Rattle.copies.specs.Ends.{EndsMoved}
 use Rattle.rewire.specs.Edges.{SettleRoom, EdgeSettled, EdgesRoom, NextNamed, TableRoom, LinkedGrown, EndRoom, StrapsRoom, EndsBelow, PushRoom}
 use Rattle.rewire.specs.Parts.{EndsMapped}
@@ -240,8 +239,8 @@ module _ {K : Kind} {i v before k n count p m room : ℕ} {verts groups : List �
       away (suc (suc c)) x e l = omega arith
 
 -- the table of rows that grew
-pub linked_rows : {r : Grown} {m : ℕ} {ends table : List ℕ} → r ≡ Rows m → LinkedGrown r ends table → EdgesLinked m ends table
-linked_rows {r} {m} {ends} {table} q L = subst (λ (z : Grown). LinkedGrown z ends table) q L
+pub linked_rows : {r : Option ℕ} {m : ℕ} {ends table : List ℕ} → r ≡ Some m → LinkedGrown r ends table → EdgesLinked m ends table
+linked_rows {r} {m} {ends} {table} q L = subst (λ (z : Option ℕ). LinkedGrown z ends table) q L
 
 -- ---- the walk over the edges at v
 
@@ -330,8 +329,8 @@ module _ {K : Kind} {v before k n count p e room : ℕ} {verts groups : List ℕ
             }
 
         -- and then comes the next one
-        pub walk_on : {r : Grown} {ends' : List ℕ} {lengths' : List Float} → EdgeSettled K (get_or list q 0) v before k n count p rows room verts groups points ends ends' lengths lengths' r
-            → (m : ℕ) → r ≡ Rows m → length ends' ≡ length ends → length lengths' ≡ length lengths
+        pub walk_on : {r : Option ℕ} {ends' : List ℕ} {lengths' : List Float} → EdgeSettled K (get_or list q 0) v before k n count p rows room verts groups points ends ends' lengths lengths' r
+            → (m : ℕ) → r ≡ Some m → length ends' ≡ length ends → length lengths' ≡ length lengths
             → Passing K v before k n count p e room verts groups points ends₀ ends' lengths₀ lengths' m (stop_at v e ends₀ (q + 1))
         walk_on {r} {ends'} {lengths'} S m z le ll =
             let Q = passing_step K v before k n count p e room verts groups points ends₀ lengths₀ ends lengths rows (get_or list q 0) walk_here walk_inside r ends' lengths' S m z le ll in

@@ -1,5 +1,5 @@
 -- What the workers on other edges ask and give: helper records that only proofs and contracts between workers need. Definitions only.
-use Rattle.std.specs.Prelude.{ℕ, ◌+◌, ◌-◌, ◌/◌, ◌<◌, ◌≤◌, ◌≡◌, true, false, List, [], ◌∷◌, map, ◌++◌, length, get_or, set, Float}
+use Rattle.std.specs.Prelude.{ℕ, ◌+◌, ◌-◌, ◌/◌, ◌<◌, ◌≤◌, ◌≡◌, true, false, List, [], ◌∷◌, map, ◌++◌, length, get_or, set, Float, Option, None, Some}
 use Rattle.model.specs.Mesh.{Edge, Mesh}
 use Rattle.lists.specs.Lists.{stands}
 use Rattle.columns.specs.Block.{cell}
@@ -12,8 +12,6 @@ use Rattle.mesh.specs.Limits.{particle_limit}
 use Rattle.split_plan.specs.Opened.{Ringed, RingRoom, CornersBelow, ring_from, OpeningIn}
 use Rattle.work.specs.Rows.{GrownTo, Between}
 use Rattle.work.specs.Places.{EndsIn}
-use Rattle.work.specs.declared.Grown.{Grown}
-use Rattle.work.specs.declared.Grown.TheVariants.{Lacking, Rows}
 use Rattle.links.specs.Links.{holds}
 use Rattle.rewire.specs.Parts.{PartsRoom}
 use Rattle.links.specs.Linked.{EdgesLinked}
@@ -32,7 +30,7 @@ pub record CopyRoom (before k n count m room lv lg le ll : ℕ) : Type 0 where
   pub columns : EdgeRoom room le ll
 
 -- a copy of e for each group of the ring of x from `from` on stands behind the m edges
-pub record CopiesGrown (e : Edge) (x from v before k n count m room : ℕ) (verts groups ends ends' : List ℕ) (lengths lengths' : List Float) (r : Grown) : Type 0 where
+pub record CopiesGrown (e : Edge) (x from v before k n count m room : ℕ) (verts groups ends ends' : List ℕ) (lengths lengths' : List Float) (r : Option ℕ) : Type 0 where
   pub copies :
       (O : Opening) → Ringed k O n verts groups → O.count ≡ count
       → GrownTo r room (edges_at m ends lengths ++ map (λ g. calm (moved v (copy_for_of v before g) e)) (ring_from O from x)) (λ q. edges_at q ends' lengths')
@@ -49,7 +47,7 @@ pub record SettleRoom (K : Kind) (i v before k n count p m room : ℕ) (verts gr
   pub ends_in : element? K (row_at ends lengths i) ≡ false → ((row_at ends lengths i).a < p) × ((row_at ends lengths i).b < p)
 
 -- edge i of m stays in the lowest of its groups, and its copies stand behind the m edges
-pub record EdgeSettled (K : Kind) (i v before k n count p m room : ℕ) (verts groups : List ℕ) (points : List Float) (ends ends' : List ℕ) (lengths lengths' : List Float) (r : Grown) : Type 0 where
+pub record EdgeSettled (K : Kind) (i v before k n count p m room : ℕ) (verts groups : List ℕ) (points : List Float) (ends ends' : List ℕ) (lengths lengths' : List Float) (r : Option ℕ) : Type 0 where
   pub settled :
       (O : Opening) (M : Mesh) → OpeningIn O M v before k n count p verts groups points
       → GrownTo r room (set (edges_at m ends lengths) i (stayed K M O (row_at ends lengths i)) ++ doubled K M O (row_at ends lengths i)) (λ q. edges_at q ends' lengths')
@@ -81,9 +79,9 @@ pub record TableRoom (before count p m room : ℕ) (ends table : List ℕ) : Typ
   pub behind : p ≤ before
 
 -- where rows grew, the table is that of all of them
-abbrev pub LinkedGrown : Grown → List ℕ → List ℕ → Type 0
-LinkedGrown Lacking ends table = Unit {0}
-LinkedGrown (Rows m) ends table = EdgesLinked m ends table
+abbrev pub LinkedGrown : Option ℕ → List ℕ → List ℕ → Type 0
+LinkedGrown None ends table = Unit {0}
+LinkedGrown (Some m) ends table = EdgesLinked m ends table
 
 -- edge i of m is to have w for v, and has not w already
 pub record EndRoom (i v w m : ℕ) (ends table : List ℕ) : Type 0 where

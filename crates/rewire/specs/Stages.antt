@@ -1,12 +1,11 @@
 -- The stages of a split behind the particles, each the model's equation on one list. Only contracts between workers need this file. Definitions only.
-use Rattle.std.specs.Prelude.{ℕ, ◌/◌, ◌<◌, ◌≤◌, ◌≡◌, List, map, length, get_or, Float}
+use Rattle.std.specs.Prelude.{ℕ, ◌/◌, ◌<◌, ◌≤◌, ◌≡◌, List, map, length, get_or, Float, Option}
 use Rattle.model.specs.Mesh.{Mesh}
 use Rattle.model.specs.Elements.{Kind, Triangles, Straps}
 use Rattle.model.specs.Split.{Opening, rewired_triangles, rewired_straps, other_edges}
 use Rattle.mesh.specs.At.{triangles_at, edges_at}
 use Rattle.mesh.specs.Widths.{corner_columns, end_columns}
 use Rattle.split_plan.specs.Opened.{Numbered, OpeningIn}
-use Rattle.work.specs.declared.Grown.{Grown}
 use Rattle.work.specs.Rows.{GrownTo}
 
 -- ---- elements
@@ -34,7 +33,7 @@ pub record StrapsRewired (v before n : ℕ) (numbers groups ends ends' : List �
 -- ---- other edges
 
 -- the other edges at v stay in the lowest of their groups, and their copies stand behind the edges
-pub record EdgesGrown (K : Kind) (v before k n count p e room : ℕ) (verts groups : List ℕ) (points : List Float) (ends ends' : List ℕ) (lengths lengths' : List Float) (r : Grown) : Type 0 where
+pub record EdgesGrown (K : Kind) (v before k n count p e room : ℕ) (verts groups : List ℕ) (points : List Float) (ends ends' : List ℕ) (lengths lengths' : List Float) (r : Option ℕ) : Type 0 where
   pub edges :
       (O : Opening) (M : Mesh) → OpeningIn O M v before k n count p verts groups points
       → GrownTo r room (other_edges K M O (edges_at e ends lengths)) (λ m. edges_at m ends' lengths')

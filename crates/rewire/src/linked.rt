@@ -10,7 +10,6 @@ ghost use Rattle.rewire.specs.Edges.{CopyRoom, CopiesGrown, SettleRoom, EdgeSett
 
 use elements::Kind;
 use mesh::EdgeRow;
-use work::Grown;
 
 // Puts w for v in the ends of edge i, of m, in the table and in the block.
 fn move_end(i: usize, v: usize, w: usize, m: usize, ends: &mut [usize], table: &mut [u16])
@@ -52,12 +51,10 @@ pub fn rewire_straps(
     ensures { StrapsRewired v before n numbers.now groups.now ends.old ends.new
         × EdgesLinked e ends.new table.new }
 {
-    let mut i: usize = 0;
-    while i < n {
+    for i in 0..n {
         let strap = numbers[i];
         let w = mesh::rows::copy_for(v, before, groups[i]);
         move_end(strap, v, w, e, ends, table);
-        i += 1;
     }
 }
 
@@ -73,7 +70,7 @@ fn push_edge(n: usize, row: EdgeRow, ends: &mut [usize], lengths: &mut [f32], ta
     link_changes::append_cell(n, 2, mesh::PARTICLES, mesh::EDGES, span, ends, table);
 }
 
-// Appends a copy of an edge for each group from `from` on that holds x.
+// Appends a copy of an edge for each group from `from` on that holds x: how many edges there are then, or None where there is no room.
 fn append_copies(
     row: EdgeRow,
     x: usize,
@@ -90,7 +87,7 @@ fn append_copies(
     ends: &mut [usize],
     lengths: &mut [f32],
     table: &mut [u16],
-) -> Grown
+) -> Option<usize>
     requires { CopyRoom before k n count m room (length verts.now) (length groups.now) (length ends.old) (length lengths.old) ×
         (from ≤ count) × TableRoom before count before m room ends.old table.old × EndsBelow before (edge_of row) }
     ensures { CopiesGrown (edge_of row) x from v before k n count m room verts.now groups.now
@@ -99,9 +96,10 @@ fn append_copies(
 {
     let mut rows = m;
     let mut g = split_plan::next_group(x, from, count, n, k, verts, groups);
+    // The next group that x is in may leave others out, so no range steps by it.
     while g < count {
         if rows == room {
-            return Grown::Lacking;
+            return None;
         }
         let w = split_plan::copy_number(v, before, count, g);
         let copy = copies::edges::copied(row, v, w);
@@ -109,7 +107,7 @@ fn append_copies(
         rows += 1;
         g = split_plan::next_group(x, g + 1, count, n, k, verts, groups);
     }
-    Grown::Rows(rows)
+    Some(rows)
 }
 
 // Edge i stays in the lowest of its groups, and its copies are appended.
@@ -130,7 +128,7 @@ fn settle_edge(
     ends: &mut [usize],
     lengths: &mut [f32],
     table: &mut [u16],
-) -> Grown
+) -> Option<usize>
     requires { SettleRoom (kind_is kind) i v before k n count p m room verts.now groups.now (length points.now) ends.old
         lengths.old × TableRoom before count p m room ends.old table.old }
     ensures { EdgeSettled (kind_is kind) i v before k n count p m room verts.now groups.now
@@ -139,7 +137,7 @@ fn settle_edge(
 {
     let row = copies::edges::edge_at(i, ends, lengths);
     if !copies::edges::is_other(kind, v, row) {
-        return Grown::Rows(m);
+        return Some(m);
     }
     let x = copies::edges::far_end(v, row);
     let first = split_plan::next_group(x, 0, count, n, k, verts, groups);
@@ -167,11 +165,12 @@ fn settle_edge(
     let toward = split_plan::group_toward(x, v, n, k, verts, groups, points);
     let w = split_plan::copy_number(v, before, count, toward);
     move_end(i, v, w, m, ends, table);
-    Grown::Rows(m)
+    Some(m)
 }
 
 // Each other edge of the first e stays in the lowest of its groups; the copies for the further groups are appended.
 // The edges at v are listed first: what is appended behind them or moved is none that is to come.
+// How many edges there are then, or None where there is no room.
 pub fn other_edges(
     kind: Kind,
     v: usize,
@@ -189,7 +188,7 @@ pub fn other_edges(
     lengths: &mut [f32],
     table: &mut [u16],
     list: &mut [usize],
-) -> Grown
+) -> Option<usize>
     requires { EdgesRoom (kind_is kind) v before k n count p e room verts.now groups.now (length points.now) ends.old
         lengths.old × TableRoom before count p e room ends.old table.old × (e ≤ length list.old) }
     ensures { EdgesGrown (kind_is kind) v before k n count p e room verts.now groups.now
@@ -209,17 +208,11 @@ pub fn other_edges(
         list,
     );
     let mut rows = e;
-    let mut q: usize = 0;
-    while q < named {
-        let grown = settle_edge(
+    for q in 0..named {
+        rows = settle_edge(
             kind, list[q], v, before, k, n, count, p, rows, room, verts, groups, points, ends,
             lengths, table,
-        );
-        let Grown::Rows(m) = grown else {
-            return Grown::Lacking;
-        };
-        rows = m;
-        q += 1;
+        )?;
     }
-    Grown::Rows(rows)
+    Some(rows)
 }

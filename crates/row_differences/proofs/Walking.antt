@@ -28,8 +28,7 @@ use Rattle.differences.specs.Work.{read_at, same_reading_of, place_differs, row_
 use Rattle.row_differences.specs.Work.{CoordsIn, reading_at, rows_in, RowsAsked, ThreeRead, of_three, ListAsked, SidesAsked}
 use Rattle.differences.specs.declared.Part.{Part}
 use Rattle.differences.specs.declared.Part.TheVariants.{Particles, Triangles, Edges, Boundary}
-use Rattle.differences.specs.declared.Reading.{Reading}
-use Rattle.differences.specs.declared.Reading.TheVariants.{Missing, Row}
+use Rattle.std.specs.Prelude.{Option as Opt, None, Some}
 use Rattle.differences.specs.declared.lines.Lines.{Lines}
 use Rattle.differences.proofs.Places.{rows_all}
 use Rattle.differences.proofs.Writing.{lists_then, lists_as}
@@ -46,17 +45,17 @@ read_tab (suc n) f zero = ap (λ (t : Bool). pick t (some (f 0)) none) (sym (lt-
 read_tab (suc n) f (suc k) =
     read_tab n (λ j. f (suc j)) k ∙ ap (λ (t : Bool). pick t (some (f (suc k))) none) (both_less k n)
 
-as_by : (p : Part) (t : Bool) (x y z : ℕ) → as_row p (pick t (Row x y z) Missing) ≡ pick t (some (row_by p x y z)) none
+as_by : (p : Part) (t : Bool) (x y z : ℕ) → as_row p (pick t (Some (x, y, z)) None) ≡ pick t (some (row_by p x y z)) none
 as_by p true x y z = refl
 as_by p false x y z = refl
 
 -- the reading that the code finds is the list's
-pub reading_row : (p : Part) (a b c : List ℕ) (k : ℕ) (r : Reading) → r ≡ reading_at a b c k → as_row p r ≡ read_at (rows_in p a b c) k
+pub reading_row : (p : Part) (a b c : List ℕ) (k : ℕ) (r : Opt (ℕ × ℕ × ℕ)) → r ≡ reading_at a b c k → as_row p r ≡ read_at (rows_in p a b c) k
 unfolding rows_in
 reading_row p a b c k r e =
     ap (as_row p) e ∙ (as_by p (ltb k (length a)) (get_or a k 0) (get_or b k 0) (get_or c k 0) ∙ sym (read_tab (length a) (λ j. row_by p (get_or a j 0) (get_or b j 0) (get_or c j 0)) k))
 
-coords_by : (p : Part) (t : Bool) (x y z : ℕ) → Coords p x y → CoordsRead p (pick t (Row x y z) Missing)
+coords_by : (p : Part) (t : Bool) (x y z : ℕ) → Coords p x y → CoordsRead p (pick t (Some (x, y, z)) None)
 coords_by p true x y z h = h
 coords_by p false x y z h = tt
 
@@ -66,7 +65,7 @@ coords_in Triangles a b k h = tt
 coords_in Edges a b k h = tt
 coords_in Boundary a b k h = tt
 
-pub coords_at : (p : Part) (a b c : List ℕ) (k : ℕ) (r : Reading) → r ≡ reading_at a b c k → CoordsIn p a b → CoordsRead p r
+pub coords_at : (p : Part) (a b c : List ℕ) (k : ℕ) (r : Opt (ℕ × ℕ × ℕ)) → r ≡ reading_at a b c k → CoordsIn p a b → CoordsRead p r
 coords_at p a b c k r e h = subst (CoordsRead p) (sym e) (coords_by p (ltb k (length a)) (get_or a k 0) (get_or b k 0) (get_or c k 0) (coords_in p a b k h))
 
 -- ---- the loop
@@ -94,7 +93,7 @@ place_few : (p : Part) (k : ℕ) (r s : Option (List ℕ)) → length (place_dif
 unfolding place_differs
 place_few p k r s = pick_few (same_reading_of r s) (place p k r s)
 
-pub walk_more : (p : Part) (a b c x y z : List ℕ) (n : ℕ) (s₀ : List ℕ) (l₀ : Lines) (s : List ℕ) (l : Lines) (k : ℕ) (s' : List ℕ) (l' : Lines) (r u : Reading)
+pub walk_more : (p : Part) (a b c x y z : List ℕ) (n : ℕ) (s₀ : List ℕ) (l₀ : Lines) (s : List ℕ) (l : Lines) (k : ℕ) (s' : List ℕ) (l' : Lines) (r u : Opt (ℕ × ℕ × ℕ))
     → Walked p (rows_in p a b c) (rows_in p x y z) n s₀ l₀ s l k → k < n → r ≡ reading_at a b c k → u ≡ reading_at x y z k
     → Lists (place_differs p k (as_row p r) (as_row p u)) s l s' l' → length s' ≡ length s → Walked p (rows_in p a b c) (rows_in p x y z) n s₀ l₀ s' l' (k + 1)
 walk_more p a b c x y z n s₀ l₀ s l k s' l' r u W h e f L m =

@@ -1,12 +1,10 @@
 -- What the workers ask and promise. Only the contracts between workers, and theorems, need this file. Definitions only.
-use Rattle.std.specs.Prelude.{ℕ, ◌+◌, ◌/◌, ◌^◌, ◌<◌, ◌≤◌, ◌≡◌, Bool, true, false, ltb, List, length, get_or, take}
+use Rattle.std.specs.Prelude.{ℕ, ◌+◌, ◌/◌, ◌^◌, ◌<◌, ◌≤◌, ◌≡◌, Bool, true, false, ltb, List, length, get_or, take, Option, None, Some}
 use Rattle.lists.specs.Lists.{pick, tab}
 use Rattle.bits.specs.Rows.{column_at}
 use Rattle.sheet.specs.Work.{RowsIn}
 use Rattle.differences.specs.declared.Part.{Part}
 use Rattle.differences.specs.declared.Part.TheVariants.{Particles, Triangles, Edges, Boundary}
-use Rattle.differences.specs.declared.Reading.{Reading}
-use Rattle.differences.specs.declared.Reading.TheVariants.{Missing, Row}
 use Rattle.differences.specs.Work.{row_by}
 
 -- a number that is not below either of two, nor above both together
@@ -21,8 +19,8 @@ pub record Level (a b c : ℕ) : Type 0 where
   pub third : c ≡ a
 
 -- the reading of place k of three columns
-abbrev pub reading_at : List ℕ → List ℕ → List ℕ → ℕ → Reading
-reading_at a b c k = pick (ltb k (length a)) (Row (get_or a k 0) (get_or b k 0) (get_or c k 0)) Missing
+abbrev pub reading_at : List ℕ → List ℕ → List ℕ → ℕ → Option (ℕ × ℕ × ℕ)
+reading_at a b c k = pick (ltb k (length a)) (Some (get_or a k 0, get_or b k 0, get_or c k 0)) None
 
 -- the rows of three columns
 unfoldable pub rows_in : Part → List ℕ → List ℕ → List ℕ → List (List ℕ)

@@ -10,8 +10,8 @@ ghost use Rattle.differences.specs.Work.{Lists};
 ghost use Rattle.row_differences.specs.Work.{Longer, reading_at, rows_in, Level, RowsAsked, ThreeIn, ThreeRead, ListAsked, SidesAsked};
 ghost use Rattle.differences.specs.declared.Part.TheVariants.{Boundary};
 
+use differences::Part;
 use differences::lines::Lines;
-use differences::{Part, Reading};
 
 // The larger of two numbers.
 fn longer(n: usize, m: usize) -> usize
@@ -20,15 +20,15 @@ fn longer(n: usize, m: usize) -> usize
     if n < m { m } else { n }
 }
 
-// The reading of place k of three columns.
-fn reading(a: &[usize], b: &[usize], c: &[usize], k: usize) -> Reading
+// The reading of place k of three columns, or none where they have no such place.
+fn reading(a: &[usize], b: &[usize], c: &[usize], k: usize) -> Option<(usize, usize, usize)>
     requires { Level (length a.now) (length b.now) (length c.now) }
     ensures { result ≡ reading_at a.now b.now c.now k }
 {
     if k < a.len() {
-        return Reading::Row(a[k], b[k], c[k]);
+        return Some((a[k], b[k], c[k]));
     }
-    Reading::Missing
+    None
 }
 
 // Writes the lines of the places at which two lists of rows differ, each list in three columns.
@@ -49,12 +49,10 @@ fn put_rows(
 {
     let n = longer(a.len(), x.len());
     let mut l = l;
-    let mut k: usize = 0;
-    while k < n {
+    for k in 0..n {
         let r = reading(a, b, c, k);
         let s = reading(x, y, z, k);
         l = differences::lines::put_place(out, l, part, k, r, s);
-        k += 1;
     }
     l
 }

@@ -13,11 +13,12 @@ use Rattle.bits.specs.Bits.{bits, bits_of, num}
 use Rattle.bits.specs.Rows.{Fit, FitAll, rows_of, col}
 use Rattle.sheet.specs.Sheet.{blade_w, all_below}
 use Rattle.sheet.specs.declared.Counts.{Counts}
-use Rattle.sheet.specs.declared.Seen.TheVariants.{Whole, Refused}
+use Rattle.std.specs.Prelude.{Ok, Err}
+use Rattle.mesh.specs.declared.refusals.Refusal.{Refusal}
 use Rattle.bits.proofs.Laws.{length_bits, num_bits}
 
 -- a refusal is no whole sheet
-pub never : (n : ℕ) (c : Counts) → Refused n ≡ Whole c → ⊥
+pub never : (n : Refusal) (c : Counts) → Err n ≡ Ok c → ⊥
 never n c e = let z : ◌≡◌ {A = ℕ} 0 1 = cc in omega arith
 
 -- bytes are equal where their bits are

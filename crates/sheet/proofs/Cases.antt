@@ -16,7 +16,8 @@ use Rattle.blade.specs.Points.{length_of}
 use Rattle.model.specs.Mesh.{Particle}
 use Rattle.sheet.specs.Read.{the_float_of, the_inverse_of, particle_from, area_of, triangle_from, edge_from, particles_from, triangles_from, edges_from, boundary_from, mesh_of_sheet, blade_of_sheet}
 use Rattle.sheet.specs.declared.Counts.{Counts}
-use Rattle.sheet.specs.declared.Seen.TheVariants.{Whole, Refused}
+use Rattle.std.specs.Prelude.{Ok, Err}
+use Rattle.mesh.specs.declared.refusals.Refusal.TheVariants.{Sheet}
 
 unfoldable pub worked : List ℕ
 worked = 0 ∷ 128 ∷ 8 ∷ 0 ∷ 128 ∷ 16 ∷ 0 ∷ 0 ∷ 0 ∷ 4 ∷ 0 ∷ 0 ∷ 8 ∷ 1 ∷ 0 ∷ 0 ∷ 2 ∷ 0 ∷ 0 ∷ 4 ∷ 2 ∷ 0 ∷ 0 ∷ 32 ∷ 12 ∷ 0 ∷ 0 ∷ 160 ∷ 8 ∷ 6 ∷ 0 ∷ 0 ∷ 16 ∷ 4 ∷ 2 ∷ 0 ∷ 128 ∷ 48 ∷ 12 ∷ 0 ∷ 255 ∷ 255 ∷ 252 ∷ 2 ∷ 128 ∷ 80 ∷ []
@@ -28,7 +29,7 @@ pub worked_length : length worked ≡ 46
 unfolding worked
 worked_length = refl
 
-pub worked_seen : seen_of most worked ≡ Whole worked_counts
+pub worked_seen : seen_of most worked ≡ Ok worked_counts
 unfolding worked worked_counts seen_of seen_with bits_of bits num sheet_with read_rows unpack total all_ok row_ok pair_ok_of above
 worked_seen = refl
 
@@ -42,7 +43,7 @@ pub worked_sheet : sheet_with worked_counts (bits_of worked) ≡ record {
 unfolding worked worked_counts bits_of bits num sheet_with read_rows unpack total
 worked_sheet = refl
 
-pub empty_seen : (limits : Counts) → seen_of limits [] ≡ Refused 9
+pub empty_seen : (limits : Counts) → seen_of limits [] ≡ Err Sheet
 unfolding seen_of
 empty_seen limits = refl
 

@@ -1,14 +1,13 @@
 -- Sheets (docs/RULES.md, R13): the layout, a sheet's meaning, and what each sheet and each writing is answered. Definitions only.
-use Rattle.std.specs.Prelude.{ℕ, ◌+◌, ◌-◌, ◌*◌, ◌/◌, Bool, true, false, cond, not, ◌&&◌, ◌||◌, List, [], ◌∷◌, ◌++◌, map, length, drop, get_or, ltb, leb, eqb, ℤ, pos, negsuc}
+use Rattle.std.specs.Prelude.{ℕ, ◌+◌, ◌-◌, ◌*◌, ◌/◌, Bool, true, false, cond, not, ◌&&◌, ◌||◌, List, [], ◌∷◌, ◌++◌, map, length, drop, get_or, ltb, leb, eqb, ℤ, pos, negsuc, Result, Ok, Err}
 use Rattle.std.proofs.Math.IntN.{sub_ℕ}
 use Rattle.bits.specs.Bits.{bits_of, field_at}
 use Rattle.bits.specs.Rows.{unpack, pack, read_rows, write_rows, Fit, FitAll, rows_of, col}
 use Rattle.sheet.specs.declared.Counts.{Counts}
-use Rattle.sheet.specs.declared.Seen.{Seen}
-use Rattle.sheet.specs.declared.Seen.TheVariants.{Whole, Refused}
+use Rattle.mesh.specs.declared.refusals.Refusal.{Refusal}
+use Rattle.mesh.specs.declared.refusals.Refusal.TheVariants.{Size, Name, Sheet as NoSheet}
 use Rattle.std.specs.Borrow.{Bor}
 use denote.Triple.Both.{Both}
-use Rattle.model.specs.Refusals.{size_refusal, name_refusal, sheet_refusal}
 
 -- the widths: counts; particle x, y, pinned; triangle; edge and structural; boundary; blade x0, y0, x1, y1
 abbrev pub header_w : List ℕ
@@ -141,18 +140,18 @@ abbrev pub names_ok : Sheet → Bool
 names_ok s = all_ok true (length s.particles) s.triangles && (all_ok false (length s.particles) s.edges && all_ok false (length s.particles) s.boundary)
 
 -- what the bytes of a sheet with counts c are answered: counts 1; length and spare bits 9; names 3
-unfoldable pub seen_with : Counts → Counts → List ℕ → Seen
+unfoldable pub seen_with : Counts → Counts → List ℕ → Result Counts Refusal
 seen_with limits c s =
-    cond (too_many_of c || above limits c) (Refused size_refusal)
+    cond (too_many_of c || above limits c) (Err Size)
     (cond (eqb (length s) (bytes_of c))
     (cond (eqb (spare_of c (bits_of s)) 0)
-    (cond (names_ok (sheet_with c (bits_of s))) (Whole c) (Refused name_refusal))
-    (Refused sheet_refusal))
-    (Refused sheet_refusal))
+    (cond (names_ok (sheet_with c (bits_of s))) (Ok c) (Err Name))
+    (Err NoSheet))
+    (Err NoSheet))
 
 -- what the bytes of a sheet are answered, where the caller's limits hold besides those of every mesh: a short header 9; then as above
-unfoldable pub seen_of : Counts → List ℕ → Seen
-seen_of limits s = cond (ltb (length s) 6) (Refused sheet_refusal) (seen_with limits (counts_at (bits_of s)) s)
+unfoldable pub seen_of : Counts → List ℕ → Result Counts Refusal
+seen_of limits s = cond (ltb (length s) 6) (Err NoSheet) (seen_with limits (counts_at (bits_of s)) s)
 
 -- every number of a column is below a bound
 unfoldable pub all_below : ℕ → List ℕ → Bool

@@ -6,6 +6,8 @@ ghost use Rattle.bits.specs.Bits.{bits_of};
 ghost use Rattle.sheet.specs.Sheet.{end_of, bytes_of, above, too_many_of, pair_ok_of, seen_of};
 ghost use Rattle.sheet.specs.Work.{row_at, ok_at_of, names_at, Small, CountsRead, RowsIn, Framed};
 
+use mesh::refusals::Refusal;
+
 // How many of each a sheet says it has.
 #[derive(Clone, Copy)]
 pub struct Counts {
@@ -13,13 +15,6 @@ pub struct Counts {
     pub triangles: usize,
     pub edges: usize,
     pub boundary: usize,
-}
-
-// What a look at a sheet finds.
-#[derive(Clone, Copy)]
-pub enum Seen {
-    Whole(Counts),
-    Refused(usize),
 }
 
 // The counts that a sheet begins with.
@@ -130,13 +125,8 @@ pub fn rows_ok(s: &[u8], at: usize, step: usize, n: usize, three: bool, p: usize
     requires { RowsIn s.now (at + 44) step n }
     ensures { result ≡ ok_at_of three p (bits_of s.now) at step n }
 {
-    let mut i = 0;
-    let mut pos = at;
-    while i < n {
-        if row_ok(s, pos, three, p) {
-            i += 1;
-            pos += step;
-        } else {
+    for i in 0..n {
+        if !row_ok(s, at + i * step, three, p) {
             return false;
         }
     }
@@ -163,28 +153,28 @@ fn names_ok(s: &[u8], c: Counts) -> bool
     }
 }
 
-// What a sheet is: whole, with its counts, or refused with a number.
-pub fn look(s: &[u8], limits: Counts) -> Seen
+// What a sheet is: whole, with its counts, or why it is refused.
+pub fn look(s: &[u8], limits: Counts) -> Result<Counts, Refusal>
     ensures { result ≡ seen_of limits s.now }
 {
     if s.len() < 6 {
-        return Seen::Refused(mesh::refusals::SHEET);
+        return Err(Refusal::Sheet);
     }
     let c = counted(s);
     if refused_counts(limits, c) {
-        return Seen::Refused(mesh::refusals::SIZE);
+        return Err(Refusal::Size);
     }
     let end = end_bit(c);
     let bytes = byte_len(c);
     if s.len() != bytes {
-        return Seen::Refused(mesh::refusals::SHEET);
+        return Err(Refusal::Sheet);
     }
     if bits::field(s, end, 8 * bytes - end) != 0 {
-        return Seen::Refused(mesh::refusals::SHEET);
+        return Err(Refusal::Sheet);
     }
     if names_ok(s, c) {
-        Seen::Whole(c)
+        Ok(c)
     } else {
-        Seen::Refused(mesh::refusals::NAME)
+        Err(Refusal::Name)
     }
 }

@@ -2,9 +2,9 @@
 use Prim.Native.Nat.{ℕ, ◌+◌, ◌*◌, ◌/◌, ◌≤◌, ◌<◌}
 use native.Mathlib.Omega.{arith}
 use mathlib.Core.Path.{◌≡◌, refl, sym, ap, subst, ◌∙◌}
-use mathlib.Core.Bool.{Bool, true, false, cond, ◌||◌}
+use mathlib.Core.Bool.{Bool, false, ◌||◌}
 use mathlib.Core.List.{List, [], ◌∷◌, ◌++◌}
-use lib.Dec.{ltb, eqb}
+use lib.Dec.{ltb}
 use lib.Ieee.{Float}
 use lib.ListN.{length, take, length-append}
 use lib.Seq.{take_at, take-length}
@@ -17,19 +17,19 @@ use Rattle.mesh.specs.Filled.{lent}
 use Rattle.mesh.specs.Widths.{point_columns, particle_words}
 use Rattle.bits.specs.Bits.{bits_of}
 use Rattle.bits.specs.Rows.{unpack}
-use Rattle.sheet.specs.Sheet.{sheet_with, above, too_many_of, most, counts_at, names_ok}
+use Rattle.sheet.specs.Sheet.{sheet_with, above, too_many_of, most, counts_at}
 use Rattle.sheet.specs.Read.{mesh_of_sheet, blade_of_sheet, counts_for}
 use Rattle.sheet.specs.declared.Counts.{Counts}
-use Rattle.sheet.specs.declared.Seen.{Seen as Typed}
-use Rattle.sheet.specs.declared.Seen.TheVariants.{Whole as TypedWhole, Refused as TypedRefused}
-use Rattle.sheet.proofs.PutLaws.{neither}
-use Rattle.edition.specs.Edition.{second, bits_in_of, typed_of, sheet_of, bytes_in, spare_in, overlong, typed_with, typed_seen, seen_in, seen_of}
-use Rattle.edition.specs.Reading.{room_for, lent_of, blade_left, ReadDone}
+use Rattle.std.specs.Prelude.{Result, Ok, Err}
+use Rattle.mesh.specs.declared.refusals.Refusal.{Refusal}
+use Rattle.mesh.specs.Refused.{number_of}
 use Rattle.edition.specs.declared.Seen.{Seen}
-use Rattle.edition.specs.declared.Seen.TheVariants.{Whole, Refused}
+use Rattle.sheet.proofs.PutLaws.{neither}
+use Rattle.edition.specs.Edition.{bits_in_of, typed_of, sheet_of, seen_of, whole_with}
+use Rattle.edition.specs.Reading.{room_for, lent_of, blade_left, ReadDone}
 use Rattle.edition.proofs.Counted.{mesh_read}
 use Rattle.edition.proofs.Starts.{typed_in}
-use Rattle.edition.proofs.Entering.{outlined, seen_whole_tells}
+use Rattle.edition.proofs.Entering.{number_small, outlined, seen_whole_tells}
 use Rattle.image.specs.Words as W
 use Rattle.image.specs.Words.{written, put_words}
 use Rattle.image.specs.Image.{image_words_of}
@@ -51,7 +51,7 @@ few_counts c n e h =
     let w = neither (ltb 2048 c.edges) (ltb 2048 c.boundary) v.1 in
     record { particles = ltb-false 1024 c.particles u.0; triangles = ltb-false 1024 c.triangles v.0; edges = ltb-false 2048 c.edges w.0; boundary = h }
 
-seen_few : (s : List ℕ) (c : Counts) (f : Bool) → seen_of most s ≡ Whole c f → Few c
+seen_few : (s : List ℕ) (c : Counts) (f : Bool) → seen_of most s ≡ whole_with c f → Few c
 seen_few s c f e =
     let a = seen_whole_tells most s c f e in
     let d = counts_at (bits_in_of (bits_of s)) in
@@ -69,7 +69,7 @@ pub record Ample (L : Lent) : Type 0 where
   pub lengths : L.lengths ≡ 8192
   pub outline : L.outline ≡ 4096
 
-room_whole : (c : Counts) (f : Bool) (L : Lent) (nb : ℕ) → Few c → Ample L → nb ≡ 4 → room_for c f L nb ≡ Whole c f
+room_whole : (c : Counts) (f : Bool) (L : Lent) (nb : ℕ) → Few c → Ample L → nb ≡ 4 → room_for c f L nb ≡ whole_with c f
 unfolding room_for
 room_whole c f L nb F A four =
     rw
@@ -81,45 +81,9 @@ lent_same : (s : List ℕ) (L : Lent) (nb : ℕ) → Ample L → nb ≡ 4 → le
 unfolding lent_of
 lent_same s L nb A four = by (seen_of most s) refl
   where
-    by : (x : Seen) → seen_of most s ≡ x → lent_of x L nb ≡ x
-    by (Refused n) e = refl
-    by (Whole c f) e = room_whole c f L nb (seen_few s c f e) A four
-
--- ---- refusals are small
-
-SmallTyped : Typed → Type 0
-SmallTyped (TypedRefused n) = n < 256
-SmallTyped (TypedWhole c) = Unit {0}
-
-SmallSeen : Seen → Type 0
-SmallSeen (Refused n) = n < 256
-SmallSeen (Whole c f) = Unit {0}
-
-cond_typed : (b : Bool) (x y : Typed) → SmallTyped x → SmallTyped y → SmallTyped (cond b x y)
-cond_typed true x y h k = h
-cond_typed false x y h k = k
-
-cond_small : (b : Bool) (x y : Seen) → SmallSeen x → SmallSeen y → SmallSeen (cond b x y)
-cond_small true x y h k = h
-cond_small false x y h k = k
-
-typed_small : (s : List ℕ) → SmallTyped (typed_seen most s)
-unfolding typed_seen typed_with SmallTyped
-typed_small s =
-    let d = counts_at (bits_in_of (bits_of s)) in
-    cond_typed (ltb (length s) 6) (TypedRefused 9) _ (omega arith)
-    (cond_typed (too_many_of d || above most d) (TypedRefused 1) _ (omega arith)
-    (cond_typed (eqb (length s) (bytes_in (second (bits_of s)) d)) _ (TypedRefused 9)
-    (cond_typed (eqb (spare_in d s) 0) _ (TypedRefused 9)
-    (cond_typed (names_ok (sheet_with d (bits_in_of (bits_of s)))) (TypedWhole d) (TypedRefused 3) tt (omega arith)) (omega arith)) (omega arith)))
-
-seen_small : (s : List ℕ) → SmallSeen (seen_of most s)
-unfolding seen_in SmallSeen SmallTyped
-seen_small s = by (typed_seen most s) (typed_small s)
-  where
-    by : (w : Typed) → SmallTyped w → SmallSeen (seen_in most s w)
-    by (TypedRefused n) h = h
-    by (TypedWhole c) h = cond_small (overlong most (length (sheet_of (bits_of s)).sheet.boundary)) (Refused 1) _ (omega arith) tt
+    by : (x : Result Seen Refusal) → seen_of most s ≡ x → lent_of x L nb ≡ x
+    by (Err n) e = refl
+    by (Ok k) e = room_whole k.counts k.replaced L nb (seen_few s k.counts k.replaced e) A four
 
 -- ---- the mesh and the blade of a sheet as it is read
 
@@ -136,27 +100,26 @@ pub lent_path : {a a' b b' c c' d d' e e' f f' g g' h h' : ℕ} → a ≡ a' →
     (record { points = a'; roots = b'; corners = c'; volumes = d'; ends = e'; lengths = f'; outline = g'; log = h' })
 lent_path ea eb ec ed ee ef eg eh i = record { points = ea i; roots = eb i; corners = ec i; volumes = ed i; ends = ee i; lengths = ef i; outline = eg i; log = eh i }
 
-module _ (s : List ℕ) (L : Lent) (r : Seen) (p : List Float) (q k : List ℕ) (v : List Float) (e : List ℕ) (l : List Float) (o g : List ℕ) (b b' : List Float)
+module _ (s : List ℕ) (L : Lent) (r : Result Seen Refusal) (p : List Float) (q k : List ℕ) (v : List Float) (e : List ℕ) (l : List Float) (o g : List ℕ) (b b' : List Float)
     (R : ReadDone most s L r p q k v e l o g b b') (A : Ample L) (four : length b ≡ 4) where
   read_is : r ≡ seen_of most s
   read_is = R.answer ∙ lent_same s L (length b) A four
 
   -- a refusal
-  pub refused_small : (n : ℕ) → r ≡ Refused n → n < 256
-  unfolding SmallSeen
-  refused_small n h = subst SmallSeen (sym read_is ∙ h) (seen_small s)
+  pub refused_small : (n : Refusal) → r ≡ Err n → number_of n < 256
+  refused_small n h = number_small n
 
-  pub sheet_refused : (n lent' x : ℕ) (out : List ℕ) → r ≡ Refused n → Replied (refused n) lent' x out → Replied (sheet_reply s) lent' x out
+  pub sheet_refused : (n : Refusal) (lent' x : ℕ) (out : List ℕ) → r ≡ Err n → Replied (refused (number_of n)) lent' x out → Replied (sheet_reply s) lent' x out
   unfolding sheet_reply
-  sheet_refused n lent' x out h f = replied_as (refused n) _ lent' x out (ap (λ (z : Seen). sheet_told z s) (sym h ∙ read_is)) f
+  sheet_refused n lent' x out h f = replied_as (refused (number_of n)) _ lent' x out (ap (λ (z : Result Seen Refusal). sheet_told z s) (sym h ∙ read_is)) f
 
   -- a whole sheet
-  module _ (c : Counts) (f : Bool) (w : r ≡ Whole c f) (same : lent p q k v e l o g ≡ L) (four' : length b' ≡ 4) where
-    here : seen_of most s ≡ Whole c f
+  module _ (c : Counts) (f : Bool) (w : r ≡ whole_with c f) (same : lent p q k v e l o g ≡ L) (four' : length b' ≡ 4) where
+    here : seen_of most s ≡ whole_with c f
     here = sym read_is ∙ w
 
-    whole_read : ReadDone most s L (Whole c f) p q k v e l o g b b'
-    whole_read = subst (λ (z : Seen). ReadDone most s L z p q k v e l o g b b') w R
+    whole_read : ReadDone most s L (whole_with c f) p q k v e l o g b b'
+    whole_read = subst (λ (z : Result Seen Refusal). ReadDone most s L z p q k v e l o g b b') w R
 
     stands_here : Standing (counts_for c) (length p) (length q) (length k) (length v) (length e) (length l) (length o)
     stands_here =
@@ -194,7 +157,7 @@ module _ (s : List ℕ) (L : Lent) (r : Seen) (p : List Float) (q k : List ℕ) 
     pub sheet_whole : (first : ℕ) → first ≡ pick f 1 0 → (lent' x : ℕ) (out : List ℕ) → Replied (value (blocks_told first c p q k v e l o b')) lent' x out → Replied (sheet_reply s) lent' x out
     unfolding sheet_reply
     sheet_whole first ef lent' x out h =
-        replied_as (value (blocks_told first c p q k v e l o b')) _ lent' x out (ap (λ (z : List ℕ). value z) (words_are first ef) ∙ ap (λ (z : Seen). sheet_told z s) (sym w ∙ read_is)) h
+        replied_as (value (blocks_told first c p q k v e l o b')) _ lent' x out (ap (λ (z : List ℕ). value z) (words_are first ef) ∙ ap (λ (z : Result Seen Refusal). sheet_told z s) (sym w ∙ read_is)) h
 
 -- ---- the words of blocks
 

@@ -11,6 +11,8 @@ use Rattle.model.specs.Reads.{value}
 use Rattle.sheet.specs.Sheet.{Sheet, sheet_from, counts_in, most}
 use Rattle.edition.specs.Edition.{SheetRead, bounded, own_of, bytes_in}
 use Rattle.sheet_writing.specs.Writing.{columns_from, answer_of, WriteDone}
+use Rattle.std.specs.Prelude.{Result}
+use Rattle.mesh.specs.declared.refusals.Refusal.{Refusal}
 use Rattle.edition.specs.declared.Seen.{Seen}
 use Rattle.sheet_writing.proofs.Putting.{Good, good}
 use Rattle.sheet_writing.proofs.Trips as E
@@ -36,5 +38,5 @@ module _ (s before after : List ℕ) (same : length after ≡ length before) (W 
   written_told =
       let g : Good (columns_from (handed_in s)) (length before) = good (columns_from (handed_in s)) (length before) (sym done.answer) in
       let w = take (bytes_in true (counts_in (columns_from (handed_in s)))) after in
-      ap (λ (x : Seen). sheet_told x w) (E.written_seen (handed_in s) before after same done most g.few (ltb-false _ _ g.short))
+      ap (λ (x : Result Seen Refusal). sheet_told x w) (E.written_seen (handed_in s) before after same done most g.few (ltb-false _ _ g.short))
       ∙ ap (λ (x : SheetRead). value (sheet_words x)) (E.written_means (handed_in s) before after same done)

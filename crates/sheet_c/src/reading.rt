@@ -6,7 +6,6 @@ ghost use Rattle.replies.specs.Reply.{Replied};
 ghost use Rattle.sheet_c.specs.Sheets.{sheet_reply};
 ghost use Rattle.sheet_c.specs.Work.{Storing, blocks_told};
 
-use edition::Seen;
 use sheet::Counts;
 
 // The limits of a mesh.
@@ -95,9 +94,9 @@ pub fn read_sheet(bytes: &[u8], out: &mut [u8]) -> u32
         &mut blade,
     );
     match seen {
-        Seen::Whole(c, replaced) => reply_blocks(
-            flag(replaced),
-            c,
+        Ok(k) => reply_blocks(
+            flag(k.replaced),
+            k.counts,
             &points,
             &roots,
             &corners,
@@ -108,6 +107,6 @@ pub fn read_sheet(bytes: &[u8], out: &mut [u8]) -> u32
             &blade,
             out,
         ),
-        Seen::Refused(n) => replies::reply_refused(n, out),
+        Err(e) => replies::reply_refused(e.number(), out),
     }
 }

@@ -4,6 +4,9 @@ ghost use Rattle.image.specs.Words.{word_at_of};
 ghost use Rattle.sheet_writing.specs.Writing.{WriteDone};
 ghost use Rattle.sheet_c.specs.Fields.{signed_of, signed_from, fields_fit_of, besides, SheetWritten};
 ghost use Rattle.sheet_c.specs.Work.{fields_few_of, FieldsRoom};
+ghost use Rattle.mesh.specs.Refused.{refusal_in};
+
+use mesh::refusals::Refusal;
 
 // The whole number that a word is in two's complement.
 fn signed(word: usize) -> i64
@@ -21,10 +24,8 @@ fn signed_into(bytes: &[u8], at: usize, n: usize, out: &mut [i64])
     requires { (4 * (at + n) ≤ length bytes.now) × (n ≤ length out.old) }
     ensures { take n out.new ≡ signed_from bytes.now at n }
 {
-    let mut i: usize = 0;
-    while i < n {
+    for i in 0..n {
         out[i] = signed(image::word_at(bytes, at + i));
-        i += 1;
     }
 }
 
@@ -76,11 +77,11 @@ fn write_elements(
     pinned: &[usize],
     blade: &[i64],
     out: &mut [u8],
-) -> usize
+) -> Result<(), Refusal>
     requires { FieldsRoom fields.now }
     ensures { WriteDone (besides fields.now (word_at_of fields.now 0) (word_at_of fields.now 1)
         (word_at_of fields.now 2) x.now y.now pinned.now blade.now) out.old
-        out.new result }
+        out.new (refusal_in result) }
 {
     let mut t0 = [0usize; mesh::TRIANGLES];
     let mut t1 = [0usize; mesh::TRIANGLES];
@@ -114,9 +115,9 @@ fn write_elements(
 }
 
 // Reads the columns of particles and the blade, and writes the sheet.
-fn write_fields(fields: &[u8], out: &mut [u8]) -> usize
+fn write_fields(fields: &[u8], out: &mut [u8]) -> Result<(), Refusal>
     requires { FieldsRoom fields.now }
-    ensures { SheetWritten fields.now out.old out.new result × (result < 256) }
+    ensures { SheetWritten fields.now out.old out.new (refusal_in result) }
 {
     let mut x = [0i64; mesh::PARTICLES];
     let mut y = [0i64; mesh::PARTICLES];
@@ -131,13 +132,13 @@ fn write_fields(fields: &[u8], out: &mut [u8]) -> usize
     write_elements(fields, &x[..p], &y[..p], &pinned[..p], &blade, out)
 }
 
-// Fields written to the bytes of a sheet: 1 where they are not as many as the counts say, or these are above the limits.
-pub fn write_sheet(fields: &[u8], out: &mut [u8]) -> u32
-    ensures { SheetWritten fields.now out.old out.new result }
+// Fields written to the bytes of a sheet; they are refused where they are not as many as the counts say, or these are above the limits.
+pub fn write_sheet(fields: &[u8], out: &mut [u8]) -> Result<(), Refusal>
+    ensures { SheetWritten fields.now out.old out.new (refusal_in result) }
 {
     if fields_ok(fields) {
-        return write_fields(fields, out) as u32;
+        return write_fields(fields, out);
     }
     bits::blank(out);
-    1
+    Err(Refusal::Size)
 }

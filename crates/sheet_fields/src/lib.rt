@@ -8,7 +8,9 @@ ghost use Rattle.bits.specs.Rows.{pack, write_rows, rows_of};
 ghost use Rattle.bits.specs.Places.{TableIn, FourIn};
 ghost use Rattle.sheet.specs.Sheet.{all_below, all_ok, row_ok, even3, even_of, fit3, fit_of, sheet_from, names_ok, answer_of, the_field_of, fields_of, particle_w, blade_w, wholes_in, wholes_before};
 ghost use Rattle.sheet.specs.Work.{Even};
+ghost use Rattle.mesh.specs.Refused.{refusal_in};
 
+use mesh::refusals::Refusal;
 use sheet::Counts;
 
 // The 11-bit two's complement field of a whole number; 2048, which the writer refuses, where there is none.
@@ -31,11 +33,8 @@ pub fn field_of(z: i64) -> usize
 fn below(a: &[usize], bound: usize) -> bool
     ensures { result ≡ all_below bound a.now }
 {
-    let mut i = 0;
-    while i < a.len() {
-        if a[i] < bound {
-            i += 1;
-        } else {
+    for &x in a {
+        if x >= bound {
             return false;
         }
     }
@@ -47,12 +46,8 @@ fn names_in(three: bool, p: usize, a: &[usize], b: &[usize], c: &[usize]) -> boo
     requires { (length b.now ≡ length a.now) × (length c.now ≡ length a.now) }
     ensures { result ≡ all_ok three p (rows_of (a.now ∷ b.now ∷ c.now ∷ []) 0 (length a.now)) }
 {
-    let n = a.len();
-    let mut i = 0;
-    while i < n {
-        if names_row(three, p, a[i], b[i], c[i]) {
-            i += 1;
-        } else {
+    for i in 0..a.len() {
+        if !names_row(three, p, a[i], b[i], c[i]) {
             return false;
         }
     }
@@ -101,11 +96,8 @@ fn fits3(l: usize, m: usize, n: usize, a: &[usize], b: &[usize], c: &[usize]) ->
 fn whole_fit(a: &[i64]) -> bool
     ensures { result ≡ all_below 2048 (map the_field_of a.now) }
 {
-    let mut i = 0;
-    while i < a.len() {
-        if field_of(a[i]) < 2048 {
-            i += 1;
-        } else {
+    for i in 0..a.len() {
+        if field_of(a[i]) >= 2048 {
             return false;
         }
     }
@@ -146,13 +138,11 @@ pub fn put_particles(s: &mut [u8], at: usize, x: &[i64], y: &[i64], pinned: &[us
         (length (map the_field_of x.now)))) }
 {
     let n = x.len();
-    let mut i = 0;
     let mut pos = at;
-    while i < n {
+    for i in 0..n {
         let across = field_of(x[i]);
         let up = field_of(y[i]);
         bits::put_row(s, pos, 11, 11, 1, across, up, pinned[i]);
-        i += 1;
         pos += 23;
     }
 }
@@ -283,8 +273,8 @@ pub fn refusal(
     b0: &[usize],
     b1: &[usize],
     blade: &[i64],
-) -> usize
-    ensures { result ≡ answer_of (fields_of (wholes_before x y pinned t0 t1 t2 e0 e1 structural b0 b1 blade)) m }
+) -> Result<(), Refusal>
+    ensures { refusal_in result ≡ answer_of (fields_of (wholes_before x y pinned t0 t1 t2 e0 e1 structural b0 b1 blade)) m }
 {
     if all_same(x, y, pinned, t0, t1, t2, e0, e1, structural, b0, b1, blade) {
         let c = Counts {
@@ -294,18 +284,22 @@ pub fn refusal(
             boundary: b0.len(),
         };
         if sheet::too_many(c) {
-            return 1;
+            return Err(Refusal::Size);
         }
         if all_fit(x, y, pinned, t0, t1, t2, e0, e1, structural, b0, b1, blade) {
             if names_all(x, y, pinned, t0, t1, t2, e0, e1, structural, b0, b1, blade) {
-                if sheet::byte_len(c) <= m { 0 } else { 9 }
+                if sheet::byte_len(c) <= m {
+                    Ok(())
+                } else {
+                    Err(Refusal::Sheet)
+                }
             } else {
-                3
+                Err(Refusal::Name)
             }
         } else {
-            2
+            Err(Refusal::Number)
         }
     } else {
-        1
+        Err(Refusal::Size)
     }
 }

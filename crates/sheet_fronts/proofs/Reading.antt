@@ -25,10 +25,11 @@ use Rattle.sheet.proofs.Rowed.{sheet_rowed}
 use Rattle.sheet.specs.Read.{the_float_of, mesh_of_sheet, blade_of_sheet, counts_for}
 use Rattle.sheet.specs.declared.Counts.{Counts}
 use Rattle.sheet.proofs.MeshReads.{blade_read}
-use Rattle.edition.specs.Edition.{bits_in_of, typed_of, sheet_of, seen_of}
+use Rattle.edition.specs.Edition.{bits_in_of, typed_of, sheet_of, seen_of, whole_with}
 use Rattle.edition.specs.Reading.{room_for, lent_of, world_of, blade_left, ReadDone}
+use Rattle.std.specs.Prelude.{Result}
+use Rattle.mesh.specs.declared.refusals.Refusal.{Refusal}
 use Rattle.edition.specs.declared.Seen.{Seen}
-use Rattle.edition.specs.declared.Seen.TheVariants.{Whole}
 use Rattle.edition.proofs.Starts.{typed_within}
 use Rattle.edition.proofs.Entering.{seen_whole_tells}
 use Rattle.edition.proofs.Counted.{mesh_counts as counted}
@@ -38,7 +39,7 @@ use Rattle.sheet_fronts.specs.Fronts.{Exact, Ample, fronts, FrontsRead}
 -- ---- the counts
 
 -- a whole sheet keeps the limits
-pub seen_few : (s : List ℕ) (c : Counts) (f : Bool) → seen_of limits s ≡ Whole c f → Few c
+pub seen_few : (s : List ℕ) (c : Counts) (f : Bool) → seen_of limits s ≡ whole_with c f → Few c
 seen_few s c f e =
     let w = seen_whole_tells limits s c f e in
     let d = counts_at (bits_in_of (bits_of s)) in
@@ -50,15 +51,15 @@ seen_few s c f e =
     record { particles = omega (arith, F.particles); triangles = omega (arith, F.triangles); edges = omega (arith, F.edges); boundary = omega (arith, w.within) }
 
 -- and tells whether its typed outline was replaced
-pub seen_told : (s : List ℕ) (c : Counts) (f : Bool) → seen_of limits s ≡ Whole c f → seen_of limits s ≡ Whole c (sheet_of (bits_of s)).replaced
-seen_told s c f e = e ∙ ap (λ (t : Bool). Whole c t) (seen_whole_tells limits s c f e).told
+pub seen_told : (s : List ℕ) (c : Counts) (f : Bool) → seen_of limits s ≡ whole_with c f → seen_of limits s ≡ whole_with c (sheet_of (bits_of s)).replaced
+seen_told s c f e = e ∙ ap (λ (t : Bool). whole_with c t) (seen_whole_tells limits s c f e).told
 
 -- the mesh of a sheet with an empty log
 abbrev pub world_read : List ℕ → World
 world_read l = record { mesh = mesh_of_sheet (sheet_of l).sheet; log = [] }
 
 -- it has as many entries as the counts say
-pub mesh_counts : (s : List ℕ) (c : Counts) (f : Bool) → seen_of limits s ≡ Whole c f → counts_in (world_read (bits_of s)) ≡ counts_for c
+pub mesh_counts : (s : List ℕ) (c : Counts) (f : Bool) → seen_of limits s ≡ whole_with c f → counts_in (world_read (bits_of s)) ≡ counts_for c
 unfolding world_of
 mesh_counts s c f seen = counted limits s c f seen
 
@@ -80,7 +81,7 @@ exact_sizes c L F X =
     true_and (true_and (true_and p t) e) o
 
 -- and have room for the sheet
-exact_room : (c : Counts) (f : Bool) (L : Lent) (nb : ℕ) → Exact c L → nb ≡ 4 → room_for c f L nb ≡ Whole c f
+exact_room : (c : Counts) (f : Bool) (L : Lent) (nb : ℕ) → Exact c L → nb ≡ 4 → room_for c f L nb ≡ whole_with c f
 unfolding room_for
 exact_room c f L nb X four =
     rw
@@ -136,16 +137,16 @@ exact_fronts c P R C U E N O G F A =
 
 -- ---- what was read
 
-module _ (s : List ℕ) (c : Counts) (L : Lent) (r : Seen) (P : List Float) (R C : List ℕ) (U : List Float) (E : List ℕ) (N : List Float) (O G : List ℕ) (b b' : List Float)
-    (D : ReadDone limits s L r P R C U E N O G b b') (seen : seen_of limits s ≡ Whole c (sheet_of (bits_of s)).replaced) (X : Exact c L) (four : length b ≡ 4) where
+module _ (s : List ℕ) (c : Counts) (L : Lent) (r : Result Seen Refusal) (P : List Float) (R C : List ℕ) (U : List Float) (E : List ℕ) (N : List Float) (O G : List ℕ) (b b' : List Float)
+    (D : ReadDone limits s L r P R C U E N O G b b') (seen : seen_of limits s ≡ whole_with c (sheet_of (bits_of s)).replaced) (X : Exact c L) (four : length b ≡ 4) where
   -- the sheet was read whole
-  read_whole : r ≡ Whole c (sheet_of (bits_of s)).replaced
+  read_whole : r ≡ whole_with c (sheet_of (bits_of s)).replaced
   unfolding lent_of
-  read_whole = D.answer ∙ (ap (λ (x : Seen). lent_of x L (length b)) seen ∙ exact_room c (sheet_of (bits_of s)).replaced L (length b) X four)
+  read_whole = D.answer ∙ (ap (λ (x : Result Seen Refusal). lent_of x L (length b)) seen ∙ exact_room c (sheet_of (bits_of s)).replaced L (length b) X four)
 
   read_filled : Filled (world_read (bits_of s)) L P R C U E N O G
   unfolding world_of
-  read_filled = subst (λ (x : Seen). Filled (world_of x (bits_of s)) L P R C U E N O G) read_whole D.blocks
+  read_filled = subst (λ (x : Result Seen Refusal). Filled (world_of x (bits_of s)) L P R C U E N O G) read_whole D.blocks
 
   read_fits : Fits (counts_in (world_read (bits_of s))) L
   read_fits = subst (λ (k : M.Counts). Fits k L) (sym (mesh_counts s c (sheet_of (bits_of s)).replaced seen)) (exact_fits c L X)
@@ -201,7 +202,7 @@ module _ (s : List ℕ) (c : Counts) (L : Lent) (r : Seen) (P : List Float) (R C
   unfolding blade_left
   read_blade =
       D.blade
-      ∙ (ap (λ (x : Seen). padded (length b) zero32 (blade_left x (bits_of s))) read_whole
+      ∙ (ap (λ (x : Result Seen Refusal). padded (length b) zero32 (blade_left x (bits_of s))) read_whole
       ∙ (ap (padded (length b) zero32) (sym (blade_four (bits_of s))) ∙ (padded_four (length b) _ _ _ _ four ∙ blade_four (bits_of s))))
 
   -- whatever stands behind the fronts

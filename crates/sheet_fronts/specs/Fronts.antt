@@ -6,8 +6,7 @@ use Rattle.bits.specs.Bits.{bits_of}
 use Rattle.sheet.specs.Read.{mesh_of_sheet, blade_of_sheet}
 use Rattle.sheet.specs.declared.Counts as S
 use Rattle.sheet.specs.Sheet.{limits}
-use Rattle.edition.specs.Edition.{sheet_of, seen_of}
-use Rattle.edition.specs.declared.Seen.TheVariants.{Whole}
+use Rattle.edition.specs.Edition.{sheet_of, seen_of, whole_with}
 
 -- blocks have places for the rows of a sheet with these counts, and none besides
 pub record Exact (c : S.Counts) (L : Lent) : Type 0 where
@@ -31,7 +30,7 @@ pub record Ample (L : Lent) : Type 0 where
 
 -- a sheet that is whole, blocks that have room for it, and four places for its blade
 pub record Roomy (s : List ℕ) (c : S.Counts) (L : Lent) (blade : ℕ) : Type 0 where
-  pub seen : seen_of limits s ≡ Whole c (sheet_of (bits_of s)).replaced
+  pub seen : seen_of limits s ≡ whole_with c (sheet_of (bits_of s)).replaced
   pub ample : Ample L
   pub four : blade ≡ 4
 

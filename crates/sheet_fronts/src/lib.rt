@@ -39,7 +39,8 @@ pub fn read_fronts(
     let e = 4 * c.edges;
     let o = 2 * c.boundary;
     let mut log = [0usize; 6];
-    edition::read::read(
+    // The sheet is whole, and the blocks have room: nothing is refused.
+    let _ = edition::read::read(
         sheet,
         LIMITS,
         &mut points[..p],

@@ -79,14 +79,12 @@ pub fn read_particles(s: &[u8], at: usize, n: usize, points: &mut [f32], roots: 
     requires { ParticlesIn s.now at n (length points.old) (length roots.old) }
     ensures { particles_at n points.new roots.new ≡ tab n (particle_bits (bits_of s.now) at) }
 {
-    let mut i = 0;
     let mut pos = at;
-    while i < n {
+    for i in 0..n {
         let x = bits::field(s, pos, 11);
         let y = bits::field(s, pos + 11, 11);
         let pinned = bits::field(s, pos + 22, 1);
         put_particle(i, x, y, pinned, points, roots);
-        i += 1;
         pos += 23;
     }
 }
@@ -135,14 +133,12 @@ pub fn read_triangles(
     ensures { triangles_at n corners.new volumes.new
         ≡ tab n (triangle_bits (place_in points.now) (bits_of s.now) at) }
 {
-    let mut i = 0;
     let mut pos = at;
-    while i < n {
+    for i in 0..n {
         let a = bits::field(s, pos, 10);
         let b = bits::field(s, pos + 10, 10);
         let c = bits::field(s, pos + 20, 10);
         put_triangle(i, a, b, c, points, corners, volumes);
-        i += 1;
         pos += 30;
     }
 }
@@ -152,7 +148,7 @@ fn span(points: &[f32], a: usize, b: usize) -> f32
     requires { (a < length points.now / point_columns) × (b < length points.now / point_columns) }
     ensures { result ≡ length_of (minus_of (place_in points.now b) (place_in points.now a)) }
 {
-    blade::length(blade::minus(place(b, points), place(a, points)))
+    blade::length(place(b, points) - place(a, points))
 }
 
 // Reads n edges of p particles from bit `at` on.
@@ -169,9 +165,8 @@ pub fn read_edges(
     ensures { edges_at n ends.new lengths.new
         ≡ tab n (edge_bits (place_in points.now) (bits_of s.now) at) }
 {
-    let mut i = 0;
     let mut pos = at;
-    while i < n {
+    for i in 0..n {
         let a = bits::field(s, pos, 10);
         let b = bits::field(s, pos + 10, 10);
         let w = span(points, a, b);
@@ -186,7 +181,6 @@ pub fn read_edges(
             stress: 0.0,
         };
         mesh::rows::append_edge(i, row, ends, lengths);
-        i += 1;
         pos += 21;
     }
 }
@@ -206,16 +200,14 @@ pub fn read_sides(s: &[u8], at: usize, n: usize, outline: &mut [usize])
     requires { SidesIn s.now at n (length outline.old) }
     ensures { boundary_at n outline.new ≡ tab n (side_bits (bits_of s.now) at) }
 {
-    let mut i = 0;
     let mut pos = at;
-    while i < n {
+    for i in 0..n {
         put_side(
             i,
             bits::field(s, pos, 10),
             bits::field(s, pos + 10, 10),
             outline,
         );
-        i += 1;
         pos += 20;
     }
 }
@@ -231,7 +223,7 @@ pub fn read_blade(s: &[u8], at: usize, blade: &mut [f32])
     blade[1] = float_of(bits::field(s, at + 11, 11));
     blade[2] = float_of(bits::field(s, at + 22, 11));
     blade[3] = float_of(bits::field(s, at + 33, 11));
-    columns::clear_f32(4, blade);
+    columns::clear(4, blade);
 }
 
 // Fills every place with 0.
@@ -258,7 +250,7 @@ pub fn refuse(
         boundary: 0,
         log: 0,
     };
-    columns::clear_f32(0, blade);
+    columns::clear(0, blade);
     mesh::whole::finish_all(
         k, points, roots, corners, volumes, ends, lengths, outline, log,
     );

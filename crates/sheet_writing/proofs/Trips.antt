@@ -19,17 +19,17 @@ use lib.Ieee.{Float}
 use Rattle.sheet.specs.Sheet.{Sheet, Columns, sheet_from, columns_of, counts_in, counts_of, counts_at, sheet_with, sheet_bits, particle_w, boundary_w, blade_w, bytes_of, even3, even_of, fit3, fit_of, all_below, too_many_of, above, names_ok, FitSheet}
 use Rattle.sheet.specs.Read.{mesh_of_sheet}
 use Rattle.sheet.specs.declared.Counts.{Counts}
-use Rattle.sheet.specs.declared.Seen.TheVariants.{Whole as TypedWhole}
+use Rattle.std.specs.Prelude.{Result, Ok}
+use Rattle.mesh.specs.declared.refusals.Refusal.{Refusal}
+use Rattle.edition.specs.declared.Seen.{Seen}
 use Rattle.sheet.proofs.PutLaws as F
 use Rattle.sheet.proofs.There.{fit_sheet, bits_of_take, num_zeros}
 use Rattle.sheet.proofs.Trip.{same_counts, counts_read}
 use Rattle.sheet.proofs.Back.{bits_of_inj, length_col, rows_cols3, rows_cols2, below_col, fit_length, blade_below}
-use Rattle.edition.specs.Edition.{second, bits_in_of, sheet2_bits, bounded, own_of, outline_in, typed_of, sheet_of, bytes_in, end_in, typed_with, typed_seen, seen_in, seen_of}
+use Rattle.edition.specs.Edition.{second, bits_in_of, sheet2_bits, bounded, own_of, outline_in, typed_of, sheet_of, bytes_in, end_in, typed_with, typed_seen, seen_in, seen_of, whole_with}
 use Rattle.edition.specs.Reading.{room_for, lent_of, world_of, ReadDone}
 use Rattle.sheet_writing.specs.Writing.{Handed, columns_from, answer_of, put_of, WriteDone}
 use Rattle.edition.specs.Work.{TypedIn}
-use Rattle.edition.specs.declared.Seen.{Seen}
-use Rattle.edition.specs.declared.Seen.TheVariants.{Whole}
 use Rattle.edition.proofs.Editions.{bits_in, is_second, second_read, written_read, read_written, length_second}
 use Rattle.edition.proofs.Starts.{typed_in, header_bits}
 use Rattle.edition.proofs.Fields.{typed_counts_lem, typed_fit}
@@ -117,7 +117,7 @@ module _ (h : Handed) (before after : List ℕ) (same : length after ≡ length 
       ap (λ (l : List ℕ). field_at l (end_in true (counts_in k)) d) written_bits
       ∙ (ap (λ (l : List ℕ). num (take d l)) (drop_at (sheet2_bits s) z (end_in true (counts_in k)) long) ∙ (ap num (take_all d z (omega (arith, length-replicate {A = ℕ} d 0))) ∙ num_zeros d))
 
-  written_typed_seen : (lim : Counts) → above lim (counts_in k) ≡ false → typed_seen lim written ≡ TypedWhole (counts_in k)
+  written_typed_seen : (lim : Counts) → above lim (counts_in k) ≡ false → typed_seen lim written ≡ Ok (counts_in k)
   unfolding typed_with
   written_typed_seen lim few =
       let w = written_long in
@@ -127,18 +127,18 @@ module _ (h : Handed) (before after : List ℕ) (same : length after ≡ length 
       ∙ rw (written_second, g.few, few, m, eq-eqb (length written) n written_long, eq-eqb (field_at (bits_of written) (end_in true (counts_in k)) (8 * n - end_in true (counts_in k))) 0 written_spare)
 
   -- it is accepted, where the reader's own limits are not passed
-  pub written_seen : (lim : Counts) → above lim (counts_in k) ≡ false → length (own_of s) ≤ lim.boundary → seen_of lim written ≡ Whole (outlined (counts_in k) (length (own_of s))) false
+  pub written_seen : (lim : Counts) → above lim (counts_in k) ≡ false → length (own_of s) ≤ lim.boundary → seen_of lim written ≡ whole_with (outlined (counts_in k) (length (own_of s))) false
   unfolding seen_in
   written_seen lim few most = rw (written_typed_seen lim few, written_means, g.short, le-ltb lim.boundary (length (own_of s)) most)
 
   -- so a reader refuses it for room alone, and else the blocks hold the mesh of what was handed in
-  pub only_room : (lim : Counts) → above lim (counts_in k) ≡ false → length (own_of s) ≤ lim.boundary → (L : Lent) (r : Seen) (p : List Float) (q c : List ℕ) (v : List Float) (e : List ℕ) (l : List Float) (o t : List ℕ) (b b' : List Float)
+  pub only_room : (lim : Counts) → above lim (counts_in k) ≡ false → length (own_of s) ≤ lim.boundary → (L : Lent) (r : Result Seen Refusal) (p : List Float) (q c : List ℕ) (v : List Float) (e : List ℕ) (l : List Float) (o t : List ℕ) (b b' : List Float)
       → ReadDone lim written L r p q c v e l o t b b' → r ≡ room_for (outlined (counts_in k) (length (own_of s))) false L (length b)
   unfolding lent_of
-  only_room lim few most L r p q c v e l o t b b' R = R.answer ∙ ap (λ (x : Seen). lent_of x L (length b)) (written_seen lim few most)
+  only_room lim few most L r p q c v e l o t b b' R = R.answer ∙ ap (λ (x : Result Seen Refusal). lent_of x L (length b)) (written_seen lim few most)
 
   pub write_then_read : (lim : Counts) (d : Counts) (f : Bool) (L : Lent) (p : List Float) (q c : List ℕ) (v : List Float) (e : List ℕ) (l : List Float) (o t : List ℕ) (b b' : List Float)
-      → ReadDone lim written L (Whole d f) p q c v e l o t b b' → Filled (record { mesh = mesh_of_sheet (bounded (own_of s) s); log = [] }) L p q c v e l o t
+      → ReadDone lim written L (whole_with d f) p q c v e l o t b b' → Filled (record { mesh = mesh_of_sheet (bounded (own_of s) s); log = [] }) L p q c v e l o t
   unfolding world_of
   write_then_read lim d f L p q c v e l o t b b' R = subst (λ (x : Sheet). Filled (record { mesh = mesh_of_sheet x; log = [] }) L p q c v e l o t) (ap (λ y. y.sheet) written_means) R.blocks
 
@@ -160,7 +160,7 @@ fit_col2 rs f =
     let q : all_below 1024 (col 1 rs) ≡ true = below_col boundary_w 1 (omega arith) rs f in
     rw (p, q)
 
-module _ (lim : Counts) (s : List ℕ) (c : Counts) (f : Bool) (whole : seen_of lim s ≡ Whole c f) (two : second (bits_of s) ≡ true) where
+module _ (lim : Counts) (s : List ℕ) (c : Counts) (f : Bool) (whole : seen_of lim s ≡ whole_with c f) (two : second (bits_of s) ≡ true) where
   abbrev l : List ℕ
   l = bits_of s
 

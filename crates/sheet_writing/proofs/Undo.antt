@@ -28,9 +28,8 @@ use Rattle.sheet.specs.Read.{the_float_of, the_inverse_of, particle_from, partic
 use Rattle.sheet.specs.declared.Counts.{Counts}
 use Rattle.sheet.proofs.CoordLaws.{coord_whole, field_coord, coord_field}
 use Rattle.sheet.proofs.Back.{row3, below_col, fit_length, blade_below}
-use Rattle.edition.specs.Edition.{second, bits_in_of, bounded, own_of, typed_of, sheet_of, seen_of}
+use Rattle.edition.specs.Edition.{second, bits_in_of, bounded, own_of, typed_of, sheet_of, seen_of, whole_with}
 use Rattle.edition.specs.Reading.{blade_left, ReadDone}
-use Rattle.edition.specs.declared.Seen.TheVariants.{Whole}
 use Rattle.edition.proofs.Editions.{counts_second}
 use Rattle.edition.proofs.Starts.{in_second, header_bits, typed_in}
 use Rattle.edition.proofs.Counted.{mesh_read}
@@ -150,8 +149,8 @@ four_first n d h = take_at (map the_float_of d) _ 4 (length-map d the_float_of �
 
 -- what a reading that was not refused left: the sheet's mesh in the blocks, and its blade
 module _ (limits : Counts) (s : List ℕ) (L : Lent) (c : Counts) (f : Bool) (p : List Float) (q k : List ℕ) (v : List Float) (e : List ℕ) (l : List Float) (o g : List ℕ) (b b' : List Float)
-    (R : ReadDone limits s L (Whole c f) p q k v e l o g b b') (same : lent p q k v e l o g ≡ L) (two : second (bits_of s) ≡ true) where
-  pub read_seen : seen_of limits s ≡ Whole c f
+    (R : ReadDone limits s L (whole_with c f) p q k v e l o g b b') (same : lent p q k v e l o g ≡ L) (two : second (bits_of s) ≡ true) where
+  pub read_seen : seen_of limits s ≡ whole_with c f
   read_seen = lent_whole (seen_of limits s) L (length b) c f (sym R.answer)
 
   -- the sheet as it is typed
@@ -269,7 +268,7 @@ handed_written h m g =
 -- a sheet that was written, read: the blocks hold the mesh of what was handed in, with its outline, the blade is that blade, and both are to a writer what was handed in
 module _ (h : Handed) (before after : List ℕ) (same : length after ≡ length before) (W : WriteDone h before after 0) where
   module _ (limits : Counts) (L : Lent) (c : Counts) (f : Bool) (p : List Float) (q k : List ℕ) (v : List Float) (e : List ℕ) (l : List Float) (o g : List ℕ) (b b' : List Float)
-      (R : ReadDone limits (T.written h before after same W) L (Whole c f) p q k v e l o g b b') (kept : lent p q k v e l o g ≡ L) where
+      (R : ReadDone limits (T.written h before after same W) L (whole_with c f) p q k v e l o g b b') (kept : lent p q k v e l o g ≡ L) where
     abbrev s : Sheet
     s = sheet_from (columns_from h)
 

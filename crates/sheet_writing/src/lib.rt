@@ -10,7 +10,9 @@ ghost use Rattle.sheet.specs.Sheet.{sheet_from};
 ghost use Rattle.edition.specs.Edition.{sheet2_bits};
 ghost use Rattle.sheet_writing.specs.Writing.{columns_from, answer_of, WriteDone, handed_in, handed_before};
 ghost use Rattle.sheet_writing.specs.Work.{Put2};
+ghost use Rattle.mesh.specs.Refused.{refusal_in};
 
+use mesh::refusals::Refusal;
 use sheet::Counts;
 
 // Whether triangles and edges have an outline of more than 2,048 sides.
@@ -44,10 +46,10 @@ fn refusal(
     e1: &[usize],
     structural: &[usize],
     blade: &[i64],
-) -> usize
-    ensures { result ≡ answer_of (columns_from (handed_before x y pinned t0 t1 t2 e0 e1 structural blade)) m }
+) -> Result<(), Refusal>
+    ensures { refusal_in result ≡ answer_of (columns_from (handed_before x y pinned t0 t1 t2 e0 e1 structural blade)) m }
 {
-    let r = sheet_fields::refusal(
+    sheet_fields::refusal(
         65536,
         x,
         y,
@@ -61,12 +63,9 @@ fn refusal(
         &t0[..0],
         &t0[..0],
         blade,
-    );
-    if r != 0 {
-        return r;
-    }
+    )?;
     if long_own(t0, t1, t2, e0, e1, structural) {
-        return 1;
+        return Err(Refusal::Size);
     }
     let c = Counts {
         particles: x.len(),
@@ -75,9 +74,9 @@ fn refusal(
         boundary: 0,
     };
     if (sheet::end_bit(c) - 1 + 7) / 8 <= m {
-        0
+        Ok(())
     } else {
-        9
+        Err(Refusal::Sheet)
     }
 }
 
@@ -113,7 +112,7 @@ fn put_all(
     sheet_fields::put_blade(s, at_d, blade);
 }
 
-// Writes a sheet, whose coordinates are whole numbers: 0, or a refusal's number with every lent byte 0.
+// Writes a sheet, whose coordinates are whole numbers; a refusal leaves every lent byte 0.
 pub fn write(
     out: &mut [u8],
     x: &[i64],
@@ -126,11 +125,11 @@ pub fn write(
     e1: &[usize],
     structural: &[usize],
     blade: &[i64],
-) -> usize
-    ensures { WriteDone (handed_before x y pinned t0 t1 t2 e0 e1 structural blade) out.old out.new result }
+) -> Result<(), Refusal>
+    ensures { WriteDone (handed_before x y pinned t0 t1 t2 e0 e1 structural blade) out.old out.new (refusal_in result) }
 {
     bits::blank(out);
-    let r = refusal(
+    refusal(
         out.len(),
         x,
         y,
@@ -142,10 +141,7 @@ pub fn write(
         e1,
         structural,
         blade,
-    );
-    if r == 0 {
-        put_all(out, x, y, pinned, t0, t1, t2, e0, e1, structural, blade);
-        return 0;
-    }
-    r
+    )?;
+    put_all(out, x, y, pinned, t0, t1, t2, e0, e1, structural, blade);
+    Ok(())
 }

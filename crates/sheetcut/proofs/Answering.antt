@@ -22,12 +22,15 @@ use Rattle.mesh.specs.Given.{Lent, rooms_of, as_rooms}
 use Rattle.mesh.specs.Filled.{Filled, Fits, lent}
 use Rattle.filled.specs.Counts.{counts_in}
 use Rattle.filled.proofs.Held.{filled_fits, triangles_held, edges_held, log_held}
-use Rattle.call_frame.specs.Answered.{Answered, counts_of}
+use Rattle.call_frame.specs.Answered.{Answered, answer_of, counts_of}
 use Rattle.call_frame.specs.declared.Answer.{Answer}
-use Rattle.listing.specs.Listing.{listing_bytes, printed}
+use Rattle.listing.specs.Listing.{listing_bytes, refused_bytes, printed}
 use Rattle.sheetcut.specs.SheetCut.{rooms, fraction}
 use Rattle.answer_listing.specs.Listed.{pieces_in, Countable, Listable, text_of}
 use Rattle.answer_listing.proofs.Counting.{pieces_in_lem}
+use Rattle.std.specs.Prelude.{Result, Ok, Err}
+use Rattle.mesh.specs.declared.refusals.Refusal.{Refusal}
+use Rattle.model.specs.Reads.{value}
 
 -- ---- the answer of a cut
 
@@ -40,6 +43,10 @@ indices_parts M e =
     let b = and_true (all (root_ok n) M.particles && all (corners_ok n) M.triangles) (all (ends_ok n) M.edges) a.0 in
     let d = and_true (all (root_ok n) M.particles) (all (corners_ok n) M.triangles) b.0 in
     (d.1, b.1)
+
+-- an answer that is read as that of a mesh and its log is that
+answer_is : (M : Mesh) (log : List Entry) (changed : Bool) (a : Answer) → value a ≡ answer_of (done M log changed) → a ≡ record { counts = counts_of M log; changed = changed }
+answer_is M log changed a e = cc e
 
 -- the lengths of the lent blocks leave room for no more
 pub record Modest (L : Lent) : Type 0 where
@@ -94,14 +101,19 @@ module _ (L : Lent) (p : List Float) (r c : List ℕ) (v : List Float) (e : List
     done_printed ok f = λ i. listing_bytes f (log_is i) (length M.particles) ((ap₂ pieces_in (triangles_are ok) edges_are ∙ pieces_in_lem M) i)
 
   -- an answer whose mesh has indices that fit can be listed
-  pub answered_listable : (o : Outcome) (a : Answer) → Answered o L a p r c v e l b g → Modest L → ((M : Mesh) (log : List Entry) (changed : Bool) → o ≡ done M log changed → indices_fit_of M ≡ true) → Listable a c v e l (length g)
-  answered_listable (refused n) a A few ok = subst (λ (x : Answer). Listable x c v e l (length g)) (sym A.answer) tt
-  answered_listable (done M log changed) a A few ok = subst (λ (x : Answer). Listable x c v e l (length g)) (sym A.answer) (done_countable M log A.blocks few (ok M log changed refl))
+  pub answered_listable : (o : Outcome) (a : Result Answer Refusal) → Answered o L a p r c v e l b g → Modest L → ((M : Mesh) (log : List Entry) (changed : Bool) → o ≡ done M log changed → indices_fit_of M ≡ true) → Listable a c v e l (length g)
+  answered_listable (refused n) (Err d) A few ok = tt
+  answered_listable (refused n) (Ok a) A few ok = let z : ◌≡◌ {A = ℕ} 0 1 = cc A.answer in absurd (omega arith)
+  answered_listable (done M log changed) (Err d) A few ok = let z : ◌≡◌ {A = ℕ} 0 1 = cc A.answer in absurd (omega arith)
+  answered_listable (done M log changed) (Ok a) A few ok =
+      subst (λ (x : Answer). Listable (Ok x) c v e l (length g)) (sym (answer_is M log changed a A.answer)) (done_countable M log A.blocks few (ok M log changed refl))
 
   -- and its text is what is printed for the outcome
-  pub answered_text : (f : Bool) (o : Outcome) (a : Answer) → Answered o L a p r c v e l b g → ((M : Mesh) (log : List Entry) (changed : Bool) → o ≡ done M log changed → indices_fit_of M ≡ true) → text_of f a c v e l g ≡ printed f o
-  answered_text f (refused n) a A ok = ap (λ (x : Answer). text_of f x c v e l g) A.answer
-  answered_text f (done M log changed) a A ok = ap (λ (x : Answer). text_of f x c v e l g) A.answer ∙ done_printed M log A.blocks (ok M log changed refl) f
+  pub answered_text : (f : Bool) (o : Outcome) (a : Result Answer Refusal) → Answered o L a p r c v e l b g → ((M : Mesh) (log : List Entry) (changed : Bool) → o ≡ done M log changed → indices_fit_of M ≡ true) → text_of f a c v e l g ≡ printed f o
+  answered_text f (refused n) (Err d) A ok = ap refused_bytes (cc A.answer)
+  answered_text f (refused n) (Ok a) A ok = let z : ◌≡◌ {A = ℕ} 0 1 = cc A.answer in absurd (omega arith)
+  answered_text f (done M log changed) (Err d) A ok = let z : ◌≡◌ {A = ℕ} 0 1 = cc A.answer in absurd (omega arith)
+  answered_text f (done M log changed) (Ok a) A ok = ap (λ (x : Answer). text_of f (Ok x) c v e l g) (answer_is M log changed a A.answer) ∙ done_printed M log A.blocks (ok M log changed refl) f
 
 -- ---- with the places that the program lends
 
@@ -116,7 +128,7 @@ places_modest = record { points = omega arith; corners = omega arith; ends = ome
 places_rooms : as_rooms (rooms_of places) ≡ rooms
 places_rooms = refl
 
-module _ (sized : Bool) (M : Mesh) (B : Line) (f : Float) (a : Answer) (p : List Float) (r c : List ℕ) (v : List Float) (e : List ℕ) (l : List Float) (b g : List ℕ) (same : lent p r c v e l b g ≡ places)
+module _ (sized : Bool) (M : Mesh) (B : Line) (f : Float) (a : Result Answer Refusal) (p : List Float) (r c : List ℕ) (v : List Float) (e : List ℕ) (l : List Float) (b g : List ℕ) (same : lent p r c v e l b g ≡ places)
     (A : Answered (cut_call sized M 1 B f (as_rooms (rooms_of places))) places a p r c v e l b g) where
   -- the answer of a cut can be listed
   pub cut_listable : Listable a c v e l (length g)

@@ -14,6 +14,8 @@ use Rattle.edition.proofs.Editions.{counts_second}
 use Rattle.edition.proofs.Starts.{in_second, header_bits}
 use Rattle.edition.proofs.Joins.{edition_join, counts_join}
 use Rattle.edition.proofs.Limited.{Few, above?, TooLong, typed_long, too_long}
+use Rattle.mesh.specs.Refused.{number_of}
+use Rattle.mesh.specs.declared.refusals.Refusal.TheVariants.{Size, Sheet}
 use Rattle.listing.specs.Listing.{refused_bytes}
 use Rattle.sheetcut.specs.SheetCut.{listed}
 use Rattle.sheetcut.proofs.Cutting.{listed_refused}
@@ -29,9 +31,9 @@ no_entries s h two =
     ap (λ (l : List ℕ). (counts_at l).boundary) (in_second (bits_of s) two) ∙ ap (λ (c : Counts). c.boundary) (counts_second (bits_of s) (header_bits s h))
 
 -- the listing of too many bytes is the line of a refusal
-long_refused : (s : List ℕ) → 6 ≤ length s → TooLong s → listed s ≡ refused_bytes (pick (above? s) 1 9)
+long_refused : (s : List ℕ) → 6 ≤ length s → TooLong s → listed s ≡ refused_bytes (number_of (pick (above? s) Size Sheet))
 unfolding seen_in
-long_refused s six h = listed_refused s (pick (above? s) 1 9) (ap (seen_in limits s) (typed_long s six h))
+long_refused s six h = listed_refused s (pick (above? s) Size Sheet) (ap (seen_in limits s) (typed_long s six h))
 
 second_long : (s : List ℕ) → second (bits_of s) ≡ true → 1533 ≤ length s → TooLong s
 second_long s two h F =
@@ -42,7 +44,7 @@ second_long s two h F =
 both_long : (a b : List ℕ) → 6 ≤ length a → TooLong a → TooLong (a ++ b) → listed (a ++ b) ≡ listed a
 both_long a b six h g =
     long_refused (a ++ b) (omega (arith, length-append a b)) g
-    ∙ (ap (λ (k : Counts). refused_bytes (pick (too_many_of k || above limits k) 1 9)) (counts_join a b six) ∙ sym (long_refused a six h))
+    ∙ (ap (λ (k : Counts). refused_bytes (number_of (pick (too_many_of k || above limits k) Size Sheet))) (counts_join a b six) ∙ sym (long_refused a six h))
 
 -- a reader may stop behind 2,173 bytes, whatever the edition
 pub long_listed : (a b : List ℕ) → 2173 ≤ length a → listed (a ++ b) ≡ listed a

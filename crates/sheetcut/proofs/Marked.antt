@@ -19,8 +19,7 @@ use Rattle.sheet.specs.Sheet.{Sheet, limits}
 use Rattle.sheet.proofs.Rowed.{sheet_rowed}
 use Rattle.sheet.specs.Read.{mesh_of_sheet, blade_of_sheet}
 use Rattle.sheet.specs.declared.Counts.{Counts}
-use Rattle.edition.specs.Edition.{sheet_of, seen_of}
-use Rattle.edition.specs.declared.Seen.TheVariants.{Whole}
+use Rattle.edition.specs.Edition.{sheet_of, seen_of, whole_with}
 use Rattle.sheetcut.specs.SheetCut.{rooms, fraction, blade_of, cut_of}
 use Rattle.sheet_fronts.proofs.Reading.{seen_few, mesh_counts}
 
@@ -45,7 +44,7 @@ unmarked_of S =
     unless (refusal true (mesh_of_sheet S) (blade_ok (line_in S)) (fraction_ok fraction && triangles_lent unmarked_rooms (mesh_of_sheet S))) (outcome unmarked_rooms (unmarked_run S))
 
 -- a sheet within the program's limits has at most 384 crossings
-pub sheet_marks : (s : List ℕ) (c : Counts) (f : Bool) → seen_of limits s ≡ Whole c f → let S = (sheet_of (bits_of s)).sheet in length (marks_of (kind_of (mesh_of_sheet S)) (blade_in S) (mesh_of_sheet S)) ≤ 384
+pub sheet_marks : (s : List ℕ) (c : Counts) (f : Bool) → seen_of limits s ≡ whole_with c f → let S = (sheet_of (bits_of s)).sheet in length (marks_of (kind_of (mesh_of_sheet S)) (blade_in S) (mesh_of_sheet S)) ≤ 384
 sheet_marks s c f seen =
     let S = (sheet_of (bits_of s)).sheet in
     let F = seen_few s c f seen in
@@ -55,7 +54,7 @@ sheet_marks s c f seen =
     marks_few (kind_of (mesh_of_sheet S)) (blade_in S) (mesh_of_sheet S) 128 256 (sheet_rowed S).triangles (omega (arith, t, F.triangles)) (omega (arith, e, F.edges)) (omega arith)
 
 -- No sheet within the limits gets a refusal 8 that it did not get without marks: where its cut without them is not refused by 8, its cut with them is refused by the same number, or by none as well.
-pub no_new_refusal : (s : List ℕ) (c : Counts) (f : Bool) → seen_of limits s ≡ Whole c f → let S = (sheet_of (bits_of s)).sheet in (first_fault unmarked_rooms (unmarked_run S).needs ≡ 8 → ⊥)
+pub no_new_refusal : (s : List ℕ) (c : Counts) (f : Bool) → seen_of limits s ≡ whole_with c f → let S = (sheet_of (bits_of s)).sheet in (first_fault unmarked_rooms (unmarked_run S).needs ≡ 8 → ⊥)
     → first_fault rooms (cut (kind_of (mesh_of_sheet S)) (blade_in S) fraction (start (mesh_of_sheet S))).needs ≡ first_fault unmarked_rooms (unmarked_run S).needs
 unfolding unmarked_run roomier
 no_new_refusal s c f seen not8 =
@@ -76,7 +75,7 @@ done_path : {M N : Mesh} {l k : List Entry} {b c : Bool} → M ≡ N → l ≡ k
 done_path m l b = λ i. done (m i) (l i) (b i)
 
 -- Where the cut of a sheet without marks is done, the cut is done with the same mesh, its log behind the marks, and changed or not as before.
-pub done_as_unmarked : (s : List ℕ) (c : Counts) (f : Bool) (M : Mesh) (l : List Entry) (b : Bool) → seen_of limits s ≡ Whole c f → unmarked_of (sheet_of (bits_of s)).sheet ≡ done M l b
+pub done_as_unmarked : (s : List ℕ) (c : Counts) (f : Bool) (M : Mesh) (l : List Entry) (b : Bool) → seen_of limits s ≡ whole_with c f → unmarked_of (sheet_of (bits_of s)).sheet ≡ done M l b
     → let S = (sheet_of (bits_of s)).sheet in cut_of S ≡ done M (marks_of (kind_of (mesh_of_sheet S)) (blade_in S) (mesh_of_sheet S) ++ l) b
 unfolding unmarked_of unmarked_run cut_of cut_call outcome
 done_as_unmarked s c f M l b seen e =

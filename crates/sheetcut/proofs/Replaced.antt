@@ -12,9 +12,10 @@ use Rattle.model.specs.Calls.{Outcome, refused, done}
 use Rattle.mesh.specs.Log.{words_of}
 use Rattle.bits.specs.Bits.{bits_of}
 use Rattle.sheet.specs.declared.Counts.{Counts}
-use Rattle.edition.specs.Edition.{second, bounded, replaced_in, typed_of, sheet_of, seen_of}
+use Rattle.edition.specs.Edition.{second, bounded, replaced_in, typed_of, sheet_of, seen_of, whole_with}
+use Rattle.std.specs.Prelude.{Result}
+use Rattle.mesh.specs.declared.refusals.Refusal.{Refusal}
 use Rattle.edition.specs.declared.Seen.{Seen}
-use Rattle.edition.specs.declared.Seen.TheVariants.{Whole}
 use Rattle.edition.proofs.Editions.{editions_agree}
 use Rattle.edition.proofs.Entering.{seen_whole_tells}
 use Rattle.listing.specs.Listing.{refused_bytes, printed}
@@ -41,9 +42,9 @@ second_plain s two = ap (λ (f : Bool). printed f (sheet_cut s)) (never (bits_of
 
 -- a first-edition sheet that was replaced is cut as the second-edition one with the same other fields: their listings differ by the line alone
 module _ (s t : List ℕ) (c d : Counts) (g : Bool) (one : second (bits_of s) ≡ false) (two : second (bits_of t) ≡ true) (same : bounded [] (typed_of (bits_of s)) ≡ bounded [] (typed_of (bits_of t)))
-    (first : seen_of limits s ≡ Whole c true) (other : seen_of limits t ≡ Whole d g) where
+    (first : seen_of limits s ≡ whole_with c true) (other : seen_of limits t ≡ whole_with d g) where
   pub same_cut : sheet_cut s ≡ sheet_cut t
   unfolding cut_seen
   same_cut =
       let r = sym (seen_whole_tells limits s c true first).told in
-      ap (λ (x : Seen). cut_seen x s) first ∙ (ap cut_of ((editions_agree (bits_of s) (bits_of t) one two same).whole r) ∙ sym (ap (λ (x : Seen). cut_seen x t) other))
+      ap (λ (x : Result Seen Refusal). cut_seen x s) first ∙ (ap cut_of ((editions_agree (bits_of s) (bits_of t) one two same).whole r) ∙ sym (ap (λ (x : Result Seen Refusal). cut_seen x t) other))

@@ -16,8 +16,9 @@ use Rattle.sheet.specs.Sheet.{Sheet, sheet_with, all_ok, row_ok, pair_ok_of, abo
 use Rattle.sheet.specs.Read.{mesh_of_sheet, blade_of_sheet}
 use Rattle.sheet.proofs.Cases.{worked, worked_counts, worked_mesh, worked_blade}
 use Rattle.outline.specs.Outline.{single, outline_of, outline_of_triangles, within, same_sides_of, settled as settled_outline}
-use Rattle.edition.specs.Edition.{as_first_of, bits_in_of, outline_in, replaced_in, typed_of, sheet_of, typed_with, typed_seen, seen_in, seen_of}
-use Rattle.edition.specs.declared.Seen.TheVariants.{Whole, Refused}
+use Rattle.edition.specs.Edition.{as_first_of, bits_in_of, outline_in, replaced_in, typed_of, sheet_of, typed_with, typed_seen, seen_in, seen_of, whole_with}
+use Rattle.std.specs.Prelude.{Err}
+use Rattle.mesh.specs.declared.refusals.Refusal.TheVariants.{Sheet as NoSheet}
 use Rattle.edition.proofs.Cases.{worked2, worked2_read, short}
 use Rattle.listing.specs.Listing.{printed, listing_bytes, refused_bytes}
 use Rattle.listing.proofs.Worked.{worked_bytes, replaced_bytes, worked_log, worked_listing, replaced_listing, worked_refused}
@@ -48,15 +49,15 @@ use Rattle.model.specs.Reads.{blade_call, groups_call, rest_measure_call, rest_m
 -- ---- from the bytes to the mesh
 
 -- it is whole under the program's limits in both editions, and not replaced; typed without (3, 0) it is replaced
-worked_seen : seen_of limits worked ≡ Whole worked_counts false
+worked_seen : seen_of limits worked ≡ whole_with worked_counts false
 unfolding worked worked_counts seen_in typed_seen typed_with sheet_of replaced_in outline_in typed_of bits_in_of sheet_with bits_of bits num read_rows unpack total same_sides_of within any all outline_of outline_of_triangles single sift each settled_outline all_ok row_ok pair_ok_of above
 worked_seen = refl
 
-worked2_seen : seen_of limits worked2 ≡ Whole worked_counts false
+worked2_seen : seen_of limits worked2 ≡ whole_with worked_counts false
 unfolding worked2 worked_counts seen_in typed_seen typed_with sheet_of replaced_in outline_in typed_of bits_in_of as_first_of sheet_with bits_of bits num read_rows unpack total outline_of outline_of_triangles single sift each all_ok row_ok pair_ok_of above
 worked2_seen = refl
 
-short_seen : seen_of limits short ≡ Whole worked_counts true
+short_seen : seen_of limits short ≡ whole_with worked_counts true
 unfolding short worked_counts seen_in typed_seen typed_with sheet_of replaced_in outline_in typed_of bits_in_of sheet_with bits_of bits num read_rows unpack total same_sides_of within any all outline_of outline_of_triangles single sift each settled_outline all_ok row_ok pair_ok_of above
 short_seen = refl
 
@@ -134,10 +135,10 @@ short_listed = listed_whole short worked_counts true short_seen ∙ (read_printe
 
 -- ---- refusals
 
-empty_seen : seen_of limits [] ≡ Refused 9
+empty_seen : seen_of limits [] ≡ Err NoSheet
 unfolding seen_in typed_seen
 empty_seen = refl
 
 -- a file without bytes: `refused 9`
 pub empty_listed : listed [] ≡ 114 ∷ 101 ∷ 102 ∷ 117 ∷ 115 ∷ 101 ∷ 100 ∷ 32 ∷ 57 ∷ 10 ∷ []
-empty_listed = listed_refused [] 9 empty_seen ∙ worked_refused
+empty_listed = listed_refused [] NoSheet empty_seen ∙ worked_refused

@@ -1,5 +1,5 @@
 -- The program `cutlist` (docs/RULES.md, R14) as a function of bytes: the cut of a sheet, and what is printed of it. Definitions only.
-use Rattle.std.specs.Prelude.{ℕ, true, List, get_or, Float}
+use Rattle.std.specs.Prelude.{ℕ, true, List, get_or, Float, Result, Ok, Err}
 use Rattle.std.specs.Float.{binary32}
 use Rattle.std.specs.Float.Ieee.{of_bits}
 use Rattle.float.specs.Numbers.{zero32}
@@ -10,8 +10,9 @@ use Rattle.bits.specs.Bits.{bits_of}
 use Rattle.sheet.specs.Sheet.{Sheet, limits}
 use Rattle.sheet.specs.Read.{mesh_of_sheet, blade_of_sheet}
 use Rattle.edition.specs.Edition.{sheet_of, seen_of}
+use Rattle.mesh.specs.declared.refusals.Refusal.{Refusal}
+use Rattle.mesh.specs.Refused.{number_of}
 use Rattle.edition.specs.declared.Seen.{Seen}
-use Rattle.edition.specs.declared.Seen.TheVariants.{Whole, Refused}
 use Rattle.listing.specs.Listing.{printed}
 
 -- twice the particle, edge and boundary places of `limits` are lent, as many triangle places, and 640 log entries: those of a cut, and a mark for each pair of a triangle's corners
@@ -31,9 +32,9 @@ unfoldable pub cut_of : Sheet → Outcome
 cut_of s = cut_call true (mesh_of_sheet s) 1 (blade_of (blade_of_sheet s)) fraction rooms
 
 -- what a look at bytes comes to: the refusal of the sheet, or the cut of it as it is read, with the outline that it has then
-unfoldable pub cut_seen : Seen → List ℕ → Outcome
-cut_seen (Refused n) s = refused n
-cut_seen (Whole c replaced) s = cut_of (sheet_of (bits_of s)).sheet
+unfoldable pub cut_seen : Result Seen Refusal → List ℕ → Outcome
+cut_seen (Err e) s = refused (number_of e)
+cut_seen (Ok k) s = cut_of (sheet_of (bits_of s)).sheet
 
 -- the cut of the sheet of either edition that bytes are
 abbrev pub sheet_cut : List ℕ → Outcome

@@ -5,8 +5,7 @@ ghost use Rattle.std.specs.Prelude.{◌≡◌, length};
 ghost use Rattle.model.specs.Calls.{cut_call};
 ghost use Rattle.mesh.specs.Given.{mesh_of, sizes_fit_of};
 ghost use Rattle.bits.specs.Bits.{bits_of};
-ghost use Rattle.edition.specs.Edition.{sheet_of, seen_of};
-ghost use Rattle.edition.specs.declared.Seen.TheVariants.{Whole};
+ghost use Rattle.edition.specs.Edition.{sheet_of, seen_of, whole_with};
 ghost use Rattle.listing.specs.Listing.{printed};
 ghost use Rattle.sheet.specs.Sheet.{limits as most};
 ghost use Rattle.listing.specs.Answers.{Told};
@@ -16,8 +15,6 @@ ghost use Rattle.mesh.specs.Blocks.{given_before, inputs_in};
 
 use blade::Point;
 use call_frame::Answer;
-use edition::Seen;
-use listing::Written;
 use mesh::Counts;
 use sheet::Counts as SheetCounts;
 
@@ -41,7 +38,7 @@ fn list_blocks(
     lengths: &[f32],
     outline: &[usize],
     out: &mut [u8],
-) -> Written
+) -> Option<usize>
     ensures { let G = given_before points roots corners volumes ends lengths outline in
         Told (printed replaced (cut_call (sizes_fit_of G) (mesh_of G) 1 (record { from = b0; to = b1 }) tenth rooms)) (length out.old)
         out.new result }
@@ -100,7 +97,7 @@ fn list_fronts(
     outline: &[usize],
     blade: &[f32],
     out: &mut [u8],
-) -> Written
+) -> Option<usize>
     requires { Cuttable c (inputs_in points roots corners volumes ends lengths outline) (length blade.now) }
     ensures { let F = fronts_before c points roots corners volumes ends lengths outline in
         Told (printed replaced (cut_call (sizes_fit_of F) (mesh_of F) 1 (line_before blade) tenth rooms)) (length out.old)
@@ -136,8 +133,8 @@ fn list_fronts(
 }
 
 // Cuts a whole sheet with counts c, whose typed outline was replaced or not, and writes the listing.
-fn list_whole(sheet: &[u8], c: SheetCounts, replaced: bool, out: &mut [u8]) -> Written
-    requires { seen_of most sheet.now ≡ Whole c replaced }
+fn list_whole(sheet: &[u8], c: SheetCounts, replaced: bool, out: &mut [u8]) -> Option<usize>
+    requires { seen_of most sheet.now ≡ whole_with c replaced }
     ensures { Told (printed replaced (cut_of (sheet_of (bits_of sheet.now)).sheet)) (length out.old)
         out.new result }
 {
@@ -167,12 +164,12 @@ fn list_whole(sheet: &[u8], c: SheetCounts, replaced: bool, out: &mut [u8]) -> W
 }
 
 // The program from bytes to bytes: the listing of the cut of a sheet, or the line of its refusal, and 0 behind it.
-pub fn list_cut(bytes: &[u8], out: &mut [u8]) -> Written
+pub fn list_cut(bytes: &[u8], out: &mut [u8]) -> Option<usize>
     ensures { Told (listed bytes.now) (length out.old) out.new result }
 {
     let seen = edition::look(bytes, sheet_fronts::LIMITS);
     match seen {
-        Seen::Whole(c, replaced) => list_whole(bytes, c, replaced, out),
-        Seen::Refused(n) => listing::write_refused(n, out),
+        Ok(k) => list_whole(bytes, k.counts, k.replaced, out),
+        Err(e) => listing::write_refused(e.number(), out),
     }
 }

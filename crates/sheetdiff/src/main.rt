@@ -5,7 +5,6 @@ ghost use Rattle.std.specs.Prelude.{◌≡◌, ◌≤◌, length, take};
 ghost use Rattle.io.specs.Counts.{IsPrefixLen};
 ghost use Rattle.differing.specs.Differed.{differed};
 
-use listing::Written;
 use std::env::FillError;
 use std::io::Write;
 use std::rt::{Env, Files};
@@ -23,8 +22,8 @@ fn list_files(first: &[u8], second: &[u8], out: &mut [u8]) -> usize
 {
     let told = differing::list_differences(first, second, out);
     match told {
-        Written::Bytes(n) => n,
-        Written::Short => 0,
+        Some(n) => n,
+        None => 0,
     }
 }
 

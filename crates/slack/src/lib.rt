@@ -32,9 +32,7 @@ pub fn slacken_from(from: usize, e: usize, ends: &[usize], lengths: &mut [f32])
     requires { EdgesHere e (length ends.now) (length lengths.old) }
     ensures { SlackFrom from e ends.now lengths.old lengths.new }
 {
-    let mut j: usize = 0;
-    while j < e {
+    for j in 0..e {
         slacken(from, j, ends, lengths);
-        j += 1;
     }
 }

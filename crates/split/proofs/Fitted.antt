@@ -109,7 +109,7 @@ fan_told K v t e r corners volumes ends lengths N Y Z u w T =
     }
 
 -- the corners of so few elements are few
-corners_few : (K : Kind) (n : ℕ) → n ≤ 16 → n * corners_per_of K ≤ 48
+pub corners_few : (K : Kind) (n : ℕ) → n ≤ 16 → n * corners_per_of K ≤ 48
 corners_few Triangles n h = omega arith
 corners_few Straps n h = omega arith
 corners_few Nothing n h = omega arith

@@ -27,16 +27,16 @@ use Rattle.work.specs.Rows.{GrownTo}
 use Rattle.rewire.specs.Parts.{PartsRoom}
 use Rattle.mesh.specs.Workers.{row_at}
 use Rattle.rewire.specs.Edges.{EdgesRoom}
-use Rattle.work.specs.declared.Grown.{Grown}
-use Rattle.work.specs.declared.Grown.TheVariants.{Lacking as NoRoom, Rows}
+use Rattle.std.specs.Prelude.{Option, None, Some}
 use Rattle.work.proofs.Grows.{edges_many, edges_get}
 use Rattle.split.specs.Tables.{Opens, TablesFit}
 use Rattle.work.specs.Places.{EndsIn}
 use Rattle.split.specs.Steps.{GrowRoom, GrowthTold}
 use Rattle.split.specs.Growing.{StrapsNamed, ElementsRoom, ElementsRewired, ShareRoom, SharedOut}
-use Rattle.split.specs.declared.Grew.TheVariants.{Lacking, Longest}
 use Rattle.rewire.proofs.FanLaws.{moved_self}
 use Rattle.mesh.proofs.Lists.{particles_length}
+use Rattle.std.specs.Prelude.{Ok, Err}
+use Rattle.mesh.specs.declared.refusals.Refusal.TheVariants.{Edges, Particles}
 
 -- ---- elements
 
@@ -293,7 +293,7 @@ module _ {K : Kind} {L : Rooms} {k : Counts} {v n count lr lc : ℕ} {numbers ve
     (R : GrowRoom L k (length points) lr lc (length ends) (length lengths)) (F : TablesFit K k.particles k.triangles k.edges v n count numbers verts measures groups) where
   -- there is no room for the particles
   pub grow_lacks_particles : (after : Counts → List Float → List ℕ → Mesh) → L.particles - k.particles < count - 1
-      → GrowthTold K L k v n count numbers verts measures groups (λ q volumes outline. mesh_at q points roots corners volumes ends lengths outline) after (Lacking 5)
+      → GrowthTold K L k v n count numbers verts measures groups (λ q volumes outline. mesh_at q points roots corners volumes ends lengths outline) after (Err Particles)
   grow_lacks_particles after h =
       record {
         told =
@@ -302,7 +302,7 @@ module _ {K : Kind} {L : Rooms} {k : Counts} {v n count lr lc : ℕ} {numbers ve
             (λ b l. lacks_5 _ _ (omega (arith, many)), omega arith);
       }
 
-  module _ {corners₁ ends₁ ends₂ : List ℕ} {lengths₂ : List Float} {c : ℕ} {r : Grown} (fits : count - 1 ≤ L.particles - k.particles) (E : ElementsRewired K v k.particles n numbers groups corners corners₁ ends ends₁)
+  module _ {corners₁ ends₁ ends₂ : List ℕ} {lengths₂ : List Float} {c : ℕ} {r : Option ℕ} (fits : count - 1 ≤ L.particles - k.particles) (E : ElementsRewired K v k.particles n numbers groups corners corners₁ ends ends₁)
       (is : c ≡ corners_per_of K) (G : EdgesGrown K v k.particles c n count k.particles k.edges L.edges verts groups points ends₁ ends₂ lengths lengths₂ r) where
     -- the edges as they grew, from those before the rewiring
     edges_grew : (O : Opening) (volumes : List Float) (outline : List ℕ) → Opens K O v k.particles n count numbers verts measures groups
@@ -316,15 +316,15 @@ module _ {K : Kind} {L : Rooms} {k : Counts} {v n count lr lc : ℕ} {numbers ve
         (G'.edges O M (opening_in k points roots corners volumes ends lengths outline T))
 
     -- there is none for the edges
-    pub grow_lacks_edges : (after : Counts → List Float → List ℕ → Mesh) → r ≡ NoRoom
-        → GrowthTold K L k v n count numbers verts measures groups (λ q volumes outline. mesh_at q points roots corners volumes ends lengths outline) after (Lacking 6)
+    pub grow_lacks_edges : (after : Counts → List Float → List ℕ → Mesh) → r ≡ None
+        → GrowthTold K L k v n count numbers verts measures groups (λ q volumes outline. mesh_at q points roots corners volumes ends lengths outline) after (Err Edges)
     grow_lacks_edges after e =
         record {
           told =
               λ O volumes outline T.
               let M = mesh_at k points roots corners volumes ends lengths outline in
               let many = grown_particles k points roots corners volumes ends lengths outline T F.two in
-              let lacks = subst (λ (z : Grown). GrownTo z L.edges (at_longest K O M).edges (λ m. edges_at m ends₂ lengths₂)) e (edges_grew O volumes outline T) in
+              let lacks = subst (λ (z : Option ℕ). GrownTo z L.edges (at_longest K O M).edges (λ m. edges_at m ends₂ lengths₂)) e (edges_grew O volumes outline T) in
               let two = F.two in
               let most = R.particles in
               (λ b l. lacks_6 _ _ (omega (arith, many)) (leb-false (length (at_longest K O M).edges) L.edges lacks), omega arith);
@@ -332,16 +332,16 @@ module _ {K : Kind} {L : Rooms} {k : Counts} {v n count lr lc : ℕ} {numbers ve
 
     -- the edges are at their longest
     pub grow_done :
-        {points₂ : List Float} {roots₂ : List ℕ} (m : ℕ) → r ≡ Rows m → lc ≡ length corners → SharedOut v k.particles n count groups measures points points₂ roots roots₂
+        {points₂ : List Float} {roots₂ : List ℕ} (m : ℕ) → r ≡ Some m → lc ≡ length corners → SharedOut v k.particles n count groups measures points points₂ roots roots₂
         → GrowthTold K L k v n count numbers verts measures groups (λ q volumes outline. mesh_at q points roots corners volumes ends lengths outline)
-        (λ q volumes outline. mesh_at q points₂ roots₂ corners₁ volumes ends₂ lengths₂ outline) (Longest m)
+        (λ q volumes outline. mesh_at q points₂ roots₂ corners₁ volumes ends₂ lengths₂ outline) (Ok m)
     unfolding at_longest mesh_at
     grow_done {points₂} {roots₂} m e lc_is S =
         record {
           told =
               λ O volumes outline T.
               let M = mesh_at k points roots corners volumes ends lengths outline in
-              let grew = subst (λ (z : Grown). GrownTo z L.edges (at_longest K O M).edges (λ j. edges_at j ends₂ lengths₂)) e (edges_grew O volumes outline T) in
+              let grew = subst (λ (z : Option ℕ). GrownTo z L.edges (at_longest K O M).edges (λ j. edges_at j ends₂ lengths₂)) e (edges_grew O volumes outline T) in
               let low = leb-true (length (at_longest K O M).edges) L.edges grew.0 in
               let count_is = T.count_is in
               let two = F.two in

@@ -38,25 +38,24 @@ use Rattle.rewire.proofs.LinkedLaws.{linked_rows}
 use Rattle.rewire.proofs.FanLaws.{numbers_are, groups_are}
 use Rattle.work.specs.Working.{Ready}
 use Rattle.work.proofs.Placed.{particles_count}
-use Rattle.work.specs.declared.Ran.{Ran}
-use Rattle.work.specs.declared.Ran.TheVariants.{Refused, Done}
+use Rattle.work.specs.Ran.{Ran}
 use Rattle.split.specs.Tables.{FanGrouped, TablesFit, FanLent, SidesGiven}
 use Rattle.split.specs.Steps.{GrowRoom}
 use Rattle.work.specs.Places.{EndsIn}
-use Rattle.work.specs.declared.Grown.{Grown}
-use Rattle.work.specs.declared.Grown.TheVariants.{Rows}
+use Rattle.std.specs.Prelude.{Option, Some}
 use Rattle.split.specs.Growing.{StrapsNamed, ElementsRoom}
 use Rattle.split.specs.Linking.{LinkedAfter, LinkedListed, FrontKept, LinkedGrown, FanSound, FacetsLinked, FanNamed, HeadsRoom}
 use Rattle.split.specs.Settling.{RowsAfter}
 use Rattle.edge_drops.specs.Parted.{listed}
-use Rattle.split.specs.declared.Grew.{Grew}
-use Rattle.split.specs.declared.Grew.TheVariants.{Longest}
+use Rattle.split.specs.Grew.{Grew}
 use Rattle.split.proofs.GrowLaws.{table_opening, table_parts, straps_room}
 use Rattle.split.proofs.TabledLaws.{fan_lent}
 use Rattle.lists.proofs.Sifts.{and_true}
+use Rattle.std.specs.Prelude.{Ok, Err}
+use Rattle.mesh.specs.declared.refusals.Refusal.{Refusal}
 
 -- behind parts 1 to 3, where they had room
-pub grown_linked : {K : Kind} {t e b : ℕ} {corners ends outline : List ℕ} (links₀ links : List ℕ) {g : Grew} → LinkedGrown K t corners ends links₀ links g → g ≡ Longest e → SidesLinked b outline (drop 9216 links₀)
+pub grown_linked : {K : Kind} {t e b : ℕ} {corners ends outline : List ℕ} (links₀ links : List ℕ) {g : Grew} → LinkedGrown K t corners ends links₀ links g → g ≡ Ok e → SidesLinked b outline (drop 9216 links₀)
     → MeshLinked K t e b corners ends outline links
 grown_linked {K} {t} {e} {b} {corners} {ends} {outline} links₀ links X q S = let F = subst (LinkedGrown K t corners ends links₀ links) q X in with_sides links₀ F.0 F.1 S
 
@@ -155,23 +154,23 @@ table_room R F fits X =
     record { linked = X; few = R.few_edges; most = omega arith; heads = omega arith; behind = omega arith }
 
 -- the tables behind parts 1 to 3: the edges' has grown, the others are as they were
-pub grown_back : {K : Kind} {t e m : ℕ} {C E E' l : List ℕ} {r : Grown} (l₀ x : List ℕ) → FrontKept K t e C E l₀ l → length x ≡ length (mid_of 4096 5120 l) → r ≡ Rows m → EdgesGrew r E' x
+pub grown_back : {K : Kind} {t e m : ℕ} {C E E' l : List ℕ} {r : Option ℕ} (l₀ x : List ℕ) → FrontKept K t e C E l₀ l → length x ≡ length (mid_of 4096 5120 l) → r ≡ Some m → EdgesGrew r E' x
     → FrontKept K t m C E' l₀ (put_mid 4096 5120 l x)
 grown_back l₀ x M n q X = let B = edges_back M.0 n (linked_rows q X) in (B.0, B.1 ∙ M.1)
 
 -- behind a worker that is done the next one finds what it asks
-pub linked_done : {K : Kind} {corners ends outline links : List ℕ} (r : Ran) (q : Counts) → r ≡ Done q → LinkedAfter K corners ends outline links r
+pub linked_done : {K : Kind} {corners ends outline links : List ℕ} (r : Ran) (q : Counts) → r ≡ Ok q → LinkedAfter K corners ends outline links r
     → MeshLinked K q.triangles q.edges q.boundary corners ends outline links
 linked_done {K} {corners} {ends} {outline} {links} r q e X = subst (λ (z : Ran). LinkedAfter K corners ends outline links z) e X
 
 -- where one lacks room nothing is asked of the tables
-pub linked_refused : (K : Kind) (corners ends outline links : List ℕ) (r : Ran) (c : ℕ) → r ≡ Refused c → LinkedAfter K corners ends outline links r
+pub linked_refused : (K : Kind) (corners ends outline links : List ℕ) (r : Ran) (c : Refusal) → r ≡ Err c → LinkedAfter K corners ends outline links r
 linked_refused K corners ends outline links r c e = subst (LinkedAfter K corners ends outline links) (sym e) tt
 
 -- ---- listed edges that are to go
 
 -- the tables behind a worker that is done
-pub parted_done : {K : Kind} {corners ends outline links : List ℕ} (list : List ℕ) (r : Ran) (q : Counts) → r ≡ Done q → LinkedListed K corners ends outline links list r
+pub parted_done : {K : Kind} {corners ends outline links : List ℕ} (list : List ℕ) (r : Ran) (q : Counts) → r ≡ Ok q → LinkedListed K corners ends outline links list r
     → MeshLinked K q.triangles (q.edges + listed list) q.boundary corners ends outline links
 parted_done {K} {corners} {ends} {outline} {links} list r q e X = subst (λ (z : Ran). LinkedListed K corners ends outline links list z) e X
 
@@ -194,7 +193,7 @@ pub facets_next : {K : Kind} {n b room : ℕ} {numbers C B B' x x' : List ℕ} �
 facets_next F S = record { table_is = record { linked = S; few = F.table_is.few }; sound = F.sound }
 
 -- it is given back with so many entries
-pub facets_back : {K : Kind} {t e b m : ℕ} {C E B B' l : List ℕ} {r : Grown} (x : List ℕ) → MeshLinked K t e b C E B l → length x ≡ length (mid_of 9216 (length l - 9216) l) → r ≡ Rows m → GrownLinked r B' x
+pub facets_back : {K : Kind} {t e b m : ℕ} {C E B B' l : List ℕ} {r : Option ℕ} (x : List ℕ) → MeshLinked K t e b C E B l → length x ≡ length (mid_of 9216 (length l - 9216) l) → r ≡ Some m → GrownLinked r B' x
     → MeshLinked K t e m C E B' (put_mid 9216 (length l - 9216) l x)
 facets_back x M n q X = sides_back M n (sides_grown q X)
 
@@ -205,8 +204,8 @@ linked_as {K} {t} {t'} {e} {e'} {b} {b'} {C} {E} {B} {l} p q r M =
 
 -- the straddlers are listed, and all edges are in the blocks still
 pub parted_linked : {K : Kind} {C E B l : List ℕ} (k : Counts) (rows le : ℕ) (list : List ℕ) (r : Ran) → MeshLinked K k.triangles k.edges rows C E B l → RowsAfter k rows le list r → LinkedListed K C E B l list r
-parted_linked k rows le list (Refused c) M D = tt
-parted_linked k rows le list (Done q) M D = linked_as D.triangles D.whole D.boundary M
+parted_linked k rows le list (Err c) M D = tt
+parted_linked k rows le list (Ok q) M D = linked_as D.triangles D.whole D.boundary M
 
 -- none is listed
 pub none_linked : {K : Kind} {t b : ℕ} {C E B l : List ℕ} (e : ℕ) (list : List ℕ) → listed list ≡ 0 → MeshLinked K t e b C E B l → MeshLinked K t (e + listed list) b C E B l

@@ -17,8 +17,7 @@ use Rattle.elements.specs.Table.{kind_is}
 use Rattle.work.specs.Rows.{GrownTo, SideRoom}
 use Rattle.boundary.specs.Following.{SidesFollowed, SidesRoom}
 use Rattle.boundary.specs.Faces.{FaceRoom, FacetsGrown, all_facets}
-use Rattle.work.specs.declared.Grown.{Grown}
-use Rattle.work.specs.declared.Grown.TheVariants.{Rows}
+use Rattle.std.specs.Prelude.{Option, Some}
 use Rattle.split.specs.Settling.{FacetsAsked, FacetsTold, BoundaryAsked, BoundaryTold}
 
 -- as many entries as rows
@@ -41,7 +40,7 @@ facets_on {K} {before} {n} {count} {b} {room} {numbers} {lv} {lg} {lc} q A = sub
 
 module _ (kind : KindCase) (v before n count b room : ℕ) (numbers verts groups corners : List ℕ) where
   -- those of triangles
-  pub facets_triangles : (outline outline' : List ℕ) (r : Grown) → kind ≡ TrianglesCase → FacetsGrown all_facets v before n count b room numbers verts groups corners outline outline' r
+  pub facets_triangles : (outline outline' : List ℕ) (r : Option ℕ) → kind ≡ TrianglesCase → FacetsGrown all_facets v before n count b room numbers verts groups corners outline outline' r
       → FacetsTold (kind_is kind) v before n count b room numbers verts groups corners outline outline' r
   facets_triangles outline outline' r q G =
       subst (λ (z : KindCase). FacetsTold (kind_is z) v before n count b room numbers verts groups corners outline outline' r) (sym q)
@@ -53,23 +52,23 @@ module _ (kind : KindCase) (v before n count b room : ℕ) (numbers verts groups
       })
 
   -- without facets the entries are as they were
-  unchanged : (outline : List ℕ) → b ≤ room → GrownTo (Rows b) room (boundary_at b outline ++ []) (λ q. boundary_at q outline)
+  unchanged : (outline : List ℕ) → b ≤ room → GrownTo (Some b) room (boundary_at b outline ++ []) (λ q. boundary_at q outline)
   unchanged outline h =
       let e = append-nil (boundary_at b outline) in
       let l : length (boundary_at b outline ++ []) ≡ b = ap length e ∙ boundary_length b outline in
       (le-leb (length (boundary_at b outline ++ [])) room (omega arith), sym l, sym e)
 
   -- straps and nothing have none
-  pub facets_straps : (outline : List ℕ) → kind ≡ StrapsCase → b ≤ room → FacetsTold (kind_is kind) v before n count b room numbers verts groups corners outline outline (Rows b)
+  pub facets_straps : (outline : List ℕ) → kind ≡ StrapsCase → b ≤ room → FacetsTold (kind_is kind) v before n count b room numbers verts groups corners outline outline (Some b)
   unfolding crack_facets
   facets_straps outline q h =
-      subst (λ (z : KindCase). FacetsTold (kind_is z) v before n count b room numbers verts groups corners outline outline (Rows b)) (sym q)
+      subst (λ (z : KindCase). FacetsTold (kind_is z) v before n count b room numbers verts groups corners outline outline (Some b)) (sym q)
       (record { facets = λ O M t volumes points B. unchanged outline h })
 
-  pub facets_nothing : (outline : List ℕ) → kind ≡ NothingCase → b ≤ room → FacetsTold (kind_is kind) v before n count b room numbers verts groups corners outline outline (Rows b)
+  pub facets_nothing : (outline : List ℕ) → kind ≡ NothingCase → b ≤ room → FacetsTold (kind_is kind) v before n count b room numbers verts groups corners outline outline (Some b)
   unfolding crack_facets
   facets_nothing outline q h =
-      subst (λ (z : KindCase). FacetsTold (kind_is z) v before n count b room numbers verts groups corners outline outline (Rows b)) (sym q)
+      subst (λ (z : KindCase). FacetsTold (kind_is z) v before n count b room numbers verts groups corners outline outline (Some b)) (sym q)
       (record { facets = λ O M t volumes points B. unchanged outline h })
 
 -- ---- the boundary
@@ -97,7 +96,7 @@ module _ (K : Kind) (v before n count b room : ℕ) (numbers verts groups : List
       })
 
   -- the facets stand behind the entries that followed
-  pub boundary_told : (k : ℕ) (outline₁ outline₂ : List ℕ) (r : Grown) → k ≡ corners_per_of K → SidesFollowed v before k n count before b verts groups points outline outline₁
+  pub boundary_told : (k : ℕ) (outline₁ outline₂ : List ℕ) (r : Option ℕ) → k ≡ corners_per_of K → SidesFollowed v before k n count before b verts groups points outline outline₁
       → FacetsTold K v before n count b room numbers verts groups corners outline₁ outline₂ r → BoundaryTold K v before n count b room numbers verts groups points corners outline outline₂ r
   boundary_told k outline₁ outline₂ r q S F =
       let S' = subst (λ (z : ℕ). SidesFollowed v before z n count before b verts groups points outline outline₁) q S in

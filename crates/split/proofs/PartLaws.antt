@@ -28,9 +28,10 @@ use Rattle.edge_drops.specs.Parted.{listed, edges_parted, Listing}
 use Rattle.split.specs.Steps.{logged_of}
 use Rattle.work.specs.Removal.{gone_words}
 use Rattle.split.specs.Settling.{copy_words, SplitAsked, SplitNoted, PartAsked, PartedFor, RowsListed}
-use Rattle.work.specs.declared.Ran.TheVariants.{Refused, Done}
 use Rattle.work.proofs.Grows.{edges_many, edges_get}
 use Rattle.work.proofs.Removals.{gone_listed, gone_many}
+use Rattle.std.specs.Prelude.{Ok, Err}
+use Rattle.mesh.specs.declared.refusals.Refusal.TheVariants.{Entries}
 
 -- ---- the copies in the log
 
@@ -129,7 +130,7 @@ module _ (K : Kind) (L : Rooms) (k : Counts) (v before n count extra rows : ℕ)
         ∙ left_out_sift (straddles K M O) es blank_edge
 
   -- the log lacks room
-  pub part_refused : leb ((count - 1) + s + extra) (L.log - k.log) ≡ false → (list' log' : List ℕ) → PartedFor K L k v before n count extra rows verts groups corners ends list' log log' (Refused 8)
+  pub part_refused : leb ((count - 1) + s + extra) (L.log - k.log) ≡ false → (list' log' : List ℕ) → PartedFor K L k v before n count extra rows verts groups corners ends list' log log' (Err Entries)
   part_refused f list' log' =
       let b : L.log - k.log < (count - 1) + s + extra = leb-false _ _ f in
       record { told = λ O M volumes lengths S. (refl, omega (arith, logged_count O M volumes lengths S, A.log_in)) }
@@ -156,7 +157,7 @@ module _ (K : Kind) (L : Rooms) (k : Counts) (v before n count extra rows : ℕ)
     -- all has room
     pub part_done : (log' : List ℕ) (g : ℕ) → SplitNoted v before (count - 1) k.log s list ends log log' g
         → PartedFor K L k v before n count extra rows verts groups corners ends marked log log'
-        (Done (record { particles = k.particles; triangles = k.triangles; edges = k.edges - s; boundary = rows; log = g }))
+        (Ok (record { particles = k.particles; triangles = k.triangles; edges = k.edges - s; boundary = rows; log = g }))
         × RowsListed k (record { particles = k.particles; triangles = k.triangles; edges = k.edges - s; boundary = rows; log = g }) rows (length ends) marked
     part_done log' g N =
         let b : (count - 1) + s + extra ≤ L.log - k.log = leb-true _ _ f in (

@@ -23,16 +23,16 @@ use Rattle.mesh.specs.Widths.{point_columns}
 use Rattle.split_plan.specs.Opened.{RestsIn}
 use Rattle.work.specs.Rows.{GrownTo}
 use Rattle.straddling.specs.Tests.{Straddling}
-use Rattle.work.specs.declared.Grown.{Grown}
-use Rattle.work.specs.declared.Grown.TheVariants.{Lacking, Rows}
+use Rattle.std.specs.Prelude.{Option, None, Some}
 use Rattle.work.specs.Working.{Within, SettleRoom}
 use Rattle.edge_drops.specs.Parted.{mesh_parted, world_parted, ListingAfter}
 use Rattle.split.specs.Tables.{Opens, TablesFit}
 use Rattle.work.specs.Places.{EndsIn, SidesIn}
 use Rattle.split.specs.Steps.{logged_of, settled_world}
 use Rattle.split.specs.Settling.{BoundaryIn, BoundaryAsked, BoundaryTold, PartAsked, EdgesListed, PartedFor, RowsAfter, SettleAsked, SettledFor}
-use Rattle.work.specs.declared.Ran.{Ran}
-use Rattle.work.specs.declared.Ran.TheVariants.{Refused, Done}
+use Rattle.work.specs.Ran.{Ran}
+use Rattle.std.specs.Prelude.{Ok, Err}
+use Rattle.mesh.specs.declared.refusals.Refusal.TheVariants.{Boundary}
 
 -- ---- rooms that lack
 
@@ -113,7 +113,7 @@ module _ (K : Kind) (L : Rooms) (k : Counts) (v before n count extra : ℕ) (num
         record { at = S.at; before_is = S.before_is; count_is = S.count_is; ringed = S.ringed; numbered = S.numbered; rests = rests roots; triangles_are = refl; numbers_in = A.in_triangles }
 
     -- the boundary behind it
-    sides_grown : (outline' : List ℕ) (r : Grown) → BoundaryTold K v before n count k.boundary L.boundary numbers verts groups points corners outline outline' r
+    sides_grown : (outline' : List ℕ) (r : Option ℕ) → BoundaryTold K v before n count k.boundary L.boundary numbers verts groups points corners outline outline' r
         → GrownTo r L.boundary (settled K O (W roots).mesh).boundary (λ q. boundary_at q outline')
     unfolding world_at mesh_at settled
     sides_grown outline' r B = B.sides O (W roots).mesh k.triangles volumes boundary_of
@@ -124,8 +124,8 @@ module _ (K : Kind) (L : Rooms) (k : Counts) (v before n count extra : ℕ) (num
     log_was = log_length k.log log
 
   -- the boundary lacks room
-  pub refused_boundary : (outline' : List ℕ) (r : Grown) → BoundaryTold K v before n count k.boundary L.boundary numbers verts groups points corners outline outline' r → r ≡ Lacking
-      → (at : List ℕ → Counts → World) → SettledFor K L extra v before n count numbers verts groups W at (Refused 7)
+  pub refused_boundary : (outline' : List ℕ) (r : Option ℕ) → BoundaryTold K v before n count k.boundary L.boundary numbers verts groups points corners outline outline' r → r ≡ None
+      → (at : List ℕ → Counts → World) → SettledFor K L extra v before n count numbers verts groups W at (Err Boundary)
   refused_boundary outline' r B q at =
       record {
         settling =
@@ -133,7 +133,7 @@ module _ (K : Kind) (L : Rooms) (k : Counts) (v before n count extra : ℕ) (num
             record {
               told =
                   λ O roots S.
-                  let g = subst (λ (z : Grown). GrownTo z L.boundary (settled K O (W roots).mesh).boundary (λ j. boundary_at j outline')) q (sides_grown measures O roots S outline' r B) in
+                  let g = subst (λ (z : Option ℕ). GrownTo z L.boundary (settled K O (W roots).mesh).boundary (λ j. boundary_at j outline')) q (sides_grown measures O roots S outline' r B) in
                   ((λ p e hp he. lacks_7 (as_rooms L) _ hp he (leb-false _ _ g)), omega arith);
             };
       }
@@ -155,10 +155,10 @@ module _ (K : Kind) (L : Rooms) (k : Counts) (v before n count extra : ℕ) (num
         log_long = R.log;
       }
 
-  module _ (outline' : List ℕ) (r : Grown) (rows : ℕ) (B : BoundaryTold K v before n count k.boundary L.boundary numbers verts groups points corners outline outline' r) (q : r ≡ Rows rows) (list' log' : List ℕ) where
+  module _ (outline' : List ℕ) (r : Option ℕ) (rows : ℕ) (B : BoundaryTold K v before n count k.boundary L.boundary numbers verts groups points corners outline outline' r) (q : r ≡ Some rows) (list' log' : List ℕ) where
     module _ (measures : List Float) (O : Opening) (roots : List ℕ) (S : Opens K O v before n count numbers verts measures groups) where
-      grown : GrownTo (Rows rows) L.boundary (settled K O (W roots).mesh).boundary (λ j. boundary_at j outline')
-      grown = subst (λ (z : Grown). GrownTo z L.boundary (settled K O (W roots).mesh).boundary (λ j. boundary_at j outline')) q (sides_grown measures O roots S outline' r B)
+      grown : GrownTo (Some rows) L.boundary (settled K O (W roots).mesh).boundary (λ j. boundary_at j outline')
+      grown = subst (λ (z : Option ℕ). GrownTo z L.boundary (settled K O (W roots).mesh).boundary (λ j. boundary_at j outline')) q (sides_grown measures O roots S outline' r B)
 
       -- the boundary has room
       sides_fit : length (settled K O (W roots).mesh).boundary ≤ L.boundary
@@ -188,7 +188,7 @@ module _ (K : Kind) (L : Rooms) (k : Counts) (v before n count extra : ℕ) (num
     -- the boundary has room: what was told of the straddlers is told of the whole
     pub settled_told : (ran : Ran) → PartedFor K L k v before n count extra rows verts groups corners ends list' log log' ran
         → SettledFor K L extra v before n count numbers verts groups W (λ roots z. world_parted z points roots corners volumes ends lengths outline' log' list') ran
-    settled_told (Refused c) D =
+    settled_told (Err c) D =
         record {
           settling =
               λ measures.
@@ -201,7 +201,7 @@ module _ (K : Kind) (L : Rooms) (k : Counts) (v before n count extra : ℕ) (num
                     ((λ p t hp ht. lacks_8 (as_rooms L) _ hp ht (sides_fit measures O roots S) lacks ∙ sym d.0), omega (arith, d.0));
               };
         }
-    settled_told (Done z) D =
+    settled_told (Ok z) D =
         record {
           settling =
               λ measures.
@@ -216,5 +216,5 @@ module _ (K : Kind) (L : Rooms) (k : Counts) (v before n count extra : ℕ) (num
 
   -- the list behind it is one of the edges in the blocks
   pub settled_listed : (rows : ℕ) (list' : List ℕ) (ran : Ran) → RowsAfter k rows (length ends) list' ran → ListingAfter (length ends) (length lengths) list' ran
-  settled_listed rows list' (Refused c) D = tt
-  settled_listed rows list' (Done z) D = D.listing (length lengths) (omega (arith, A.room.counts.edges, A.room.lengths))
+  settled_listed rows list' (Err c) D = tt
+  settled_listed rows list' (Ok z) D = D.listing (length lengths) (omega (arith, A.room.counts.edges, A.room.lengths))

@@ -28,10 +28,10 @@ use Rattle.split.proofs.Longest.{longest_ends, longest_corners}
 use Rattle.model_laws.proofs.Accepted.{accepted_indexed}
 use Rattle.work.proofs.Placed.{particles_count, triangles_count, edges_count, ends_in, sides_in}
 use Rattle.split.proofs.Stepping.{longest_world, stepped_lacking, stepped_settled}
-use Rattle.work.specs.declared.Ran.{Ran}
-use Rattle.work.specs.declared.Ran.TheVariants.{Refused}
-use Rattle.split.specs.declared.Grew.{Grew}
-use Rattle.split.specs.declared.Grew.TheVariants.{Lacking, Longest}
+use Rattle.work.specs.Ran.{Ran}
+use Rattle.split.specs.Grew.{Grew}
+use Rattle.std.specs.Prelude.{Ok, Err}
+use Rattle.mesh.specs.declared.refusals.Refusal.{Refusal}
 
 -- as many entries as the counts say
 log_count : (k : Counts) (points : List Float) (roots corners : List ℕ) (volumes : List Float) (ends : List ℕ) (lengths : List Float) (outline log list : List ℕ)
@@ -149,40 +149,40 @@ module _ (K : Kind) (L : Rooms) (k : Counts) (points : List Float) (roots corner
     grew g T = T.told O volumes outline opens
 
     -- there was room for the particles and the edges
-    pub room_made : (g : Grew) (e : ℕ) → Told g → g ≡ Longest e → (k.particles + count - 1 ≤ L.particles) × (e ≤ L.edges)
-    room_made g e T' q = let T : Told (Longest e) = subst Told q T' in let G = grew (Longest e) T in (G.0, G.1)
+    pub room_made : (g : Grew) (e : ℕ) → Told g → g ≡ Ok e → (k.particles + count - 1 ≤ L.particles) × (e ≤ L.edges)
+    room_made g e T' q = let T : Told (Ok e) = subst Told q T' in let G = grew (Ok e) T in (G.0, G.1)
 
     -- the ends of the edges at their longest are there
-    pub ends_made : (g : Grew) (e : ℕ) → Told g → g ≡ Longest e → EndsIn (k.particles + (count - 1)) e ends'
+    pub ends_made : (g : Grew) (e : ℕ) → Told g → g ≡ Ok e → EndsIn (k.particles + (count - 1)) e ends'
     unfolding mesh_at
     ends_made g e T' q =
-        let T : Told (Longest e) = subst Told q T' in
-        let G = grew (Longest e) T in
+        let T : Told (Ok e) = subst Told q T' in
+        let G = grew (Ok e) T in
         subst (λ (p : ℕ). EndsIn (p + (count - 1)) e ends') many
         (longest_ends K M v count n groups F.two F.here F.groups_long F.below (accepted_indexed M P.indices) e ends' lengths' (ap (λ (X : Mesh). X.edges) G.2))
 
     -- and so are the corners of the triangles of the fan
-    pub corners_made : (g : Grew) (e : ℕ) → Told g → g ≡ Longest e → FanSound K n numbers corners'
+    pub corners_made : (g : Grew) (e : ℕ) → Told g → g ≡ Ok e → FanSound K n numbers corners'
     unfolding mesh_at
     corners_made g e T' q z i h =
-        let T : Told (Longest e) = subst Told q T' in
-        let G = grew (Longest e) T in
+        let T : Told (Ok e) = subst Told q T' in
+        let G = grew (Ok e) T in
         longest_corners K M v count n groups F.two F.here F.groups_long F.below (accepted_indexed M P.indices) k.triangles corners' volumes (ap (λ (X : Mesh). X.triangles) G.2)
         (omega (arith, many, G.0, P.rooms.few_particles, F.two)) z (get_or numbers i 0) (tables_in.in_triangles z i h)
 
-    pub all_lacking : (g : Grew) (c extra : ℕ) → Told g → g ≡ Lacking c → Stepped K O L extra (world_at k points roots corners volumes ends lengths outline log) (λ q. world_at q points roots corners volumes ends lengths outline log) (Refused c)
+    pub all_lacking : (g : Grew) (c : Refusal) (extra : ℕ) → Told g → g ≡ Err c → Stepped K O L extra (world_at k points roots corners volumes ends lengths outline log) (λ q. world_at q points roots corners volumes ends lengths outline log) (Err c)
     all_lacking g c extra T' q =
-        let T : Told (Lacking c) = subst Told q T' in
+        let T : Told (Err c) = subst Told q T' in
         stepped_lacking K O L extra k (world_at k points roots corners volumes ends lengths outline log) (λ q. mesh_at q points' roots' corners' volumes ends' lengths' outline) (λ q. world_at q points roots corners volumes ends lengths outline log) c
-        (subst (λ (X : Mesh). GrewTo K O L k X (λ q. mesh_at q points' roots' corners' volumes ends' lengths' outline) (Lacking c)) (sym (world_mesh k points roots corners volumes ends lengths outline log)) (grew (Lacking c) T))
+        (subst (λ (X : Mesh). GrewTo K O L k X (λ q. mesh_at q points' roots' corners' volumes ends' lengths' outline) (Err c)) (sym (world_mesh k points roots corners volumes ends lengths outline log)) (grew (Err c) T))
 
-    pub all_settled : (g : Grew) (e extra : ℕ) (outline'' log'' list'' : List ℕ) (r : Ran) → Told g → g ≡ Longest e
+    pub all_settled : (g : Grew) (e extra : ℕ) (outline'' log'' list'' : List ℕ) (r : Ran) → Told g → g ≡ Ok e
         → SettledFor K L extra v k.particles n count numbers verts groups (λ s. world_at (grown_counts k (k.particles + count - 1) e) points' s corners' volumes ends' lengths' outline log)
         (λ s q. world_parted q points' s corners' volumes ends' lengths' outline'' log'' list'') r
         → Stepped K O L extra (world_at k points roots corners volumes ends lengths outline log) (λ q. world_parted q points' roots' corners' volumes ends' lengths' outline'' log'' list'') r
     all_settled g e extra outline'' log'' list'' r T' z S =
-        let T : Told (Longest e) = subst Told z T' in
-        let G = grew (Longest e) T in
+        let T : Told (Ok e) = subst Told z T' in
+        let G = grew (Ok e) T in
         let q : Counts = grown_counts k (k.particles + count - 1) e in
         let W = world_at k points roots corners volumes ends lengths outline log in
         let m = world_mesh k points roots corners volumes ends lengths outline log in

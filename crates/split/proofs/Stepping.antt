@@ -18,12 +18,12 @@ use Rattle.mesh.specs.declared.Rooms.{Rooms}
 use Rattle.work.specs.Working.{Within, Went, Works}
 use Rattle.split.specs.Steps.{GrewTo, logged_of, settled_world, SettledTo, need_of, split_world, Stepped}
 use Rattle.work.proofs.Runs.{room_enough, need_behind, StepTold, went_step}
-use Rattle.work.specs.declared.Ran.{Ran}
-use Rattle.work.specs.declared.Ran.TheVariants.{Refused, Done}
-use Rattle.split.specs.declared.Grew.TheVariants.{Lacking}
+use Rattle.work.specs.Ran.{Ran}
+use Rattle.std.specs.Prelude.{Ok, Err}
+use Rattle.mesh.specs.declared.refusals.Refusal.{Refusal}
 
 -- the first half lacks room: so does the step
-pub stepped_lacking : (K : Kind) (O : Opening) (L : Rooms) (extra : ℕ) (k : Counts) (W : World) (at₁ : Counts → Mesh) (at : Counts → World) (c : ℕ) → GrewTo K O L k W.mesh at₁ (Lacking c) → Stepped K O L extra W at (Refused c)
+pub stepped_lacking : (K : Kind) (O : Opening) (L : Rooms) (extra : ℕ) (k : Counts) (W : World) (at₁ : Counts → Mesh) (at : Counts → World) (c : Refusal) → GrewTo K O L k W.mesh at₁ (Err c) → Stepped K O L extra W at (Err c)
 unfolding need_of settled
 stepped_lacking K O L extra k W at₁ at c G = (G.0 _ _, G.1)
 
@@ -40,8 +40,8 @@ settled_log K O W = length-append W.log _ ∙ ap (λ (m : ℕ). length W.log + m
 pub stepped_settled : (K : Kind) (O : Opening) (L : Rooms) (extra : ℕ) (W : World) (at : Counts → World) (r : Ran) → length (at_longest K O W.mesh).particles ≤ L.particles → length (at_longest K O W.mesh).edges ≤ L.edges
     → ((k : Counts) → length (at k).log ≡ k.log) → SettledTo K O L extra (longest_world K O W) at r → Stepped K O L extra W at r
 unfolding need_of settled split_world
-stepped_settled K O L extra W at (Refused c) p e logged S = (S.0 _ _ p e, S.1)
-stepped_settled K O L extra W at (Done k) p e logged S =
+stepped_settled K O L extra W at (Err c) p e logged S = (S.0 _ _ p e, S.1)
+stepped_settled K O L extra W at (Ok k) p e logged S =
     let log_is = log_length S.3 in
     (room_enough (as_rooms L) _ p e S.0 S.1, S.2, (let h = S.1 in omega arith), S.3)
   where
@@ -79,8 +79,8 @@ world_is K O R =
 
 told : (K : Kind) (O : Opening) (L : Rooms) (R : Run) (at : Counts → World) (r : Ran) → Stepped K O L 0 (world_of R.mesh R.log) at r
     → StepTold L R (settled K O (at_longest K O R.mesh)) (logged_all K O (at_longest K O R.mesh)) (length (at_longest K O R.mesh).edges) (length (settled K O (at_longest K O R.mesh)).boundary) at r
-told K O L R at (Refused c) S = (ap (too_small (as_rooms L)) (need_is K O R) ∙ S.0, S.1)
-told K O L R at (Done k) S = (ap (too_small (as_rooms L)) (need_is K O R) ∙ S.0, S.1, S.3 ∙ world_is K O R)
+told K O L R at (Err c) S = (ap (too_small (as_rooms L)) (need_is K O R) ∙ S.0, S.1)
+told K O L R at (Ok k) S = (ap (too_small (as_rooms L)) (need_is K O R) ∙ S.0, S.1, S.3 ∙ world_is K O R)
 
 -- a step that was told of is the split of any run that the blocks hold
 pub made_went : (K : Kind) (O : Opening) (L : Rooms) (W : World) (at : Counts → World) (r : Ran) (R : Run) → W ≡ world_of R.mesh R.log → first_fault (as_rooms L) R.needs ≡ 0
@@ -106,12 +106,12 @@ works_split K v sides O L W at r o t S =
 
 -- v does not split, and nothing was done
 pub works_unsplit : (K : Kind) (v : ℕ) (sides : List ℕ) (L : Rooms) (at : Counts → World) (k : Counts) → Within k L → splits? (opening_of K (at k).mesh v sides) (at k).mesh ≡ false
-    → Works (split_by_sides_of K v sides) L (at k) at (Done k)
+    → Works (split_by_sides_of K v sides) L (at k) at (Ok k)
 unfolding split_by_sides_of split_step
 works_unsplit K v sides L at k w t =
     record {
       went = λ R e z.
           let m = ap (λ (X : World). X.mesh) e in
           let y : splits? (opening_of K R.mesh v sides) R.mesh ≡ false = ap (λ (M : Mesh). splits? (opening_of K M v sides) M) (sym m) ∙ t in
-          subst (λ (S : Run). Went L S at (Done k)) (sym (ap (λ (b : Bool). pick b (split_made [] (λ M. M) K (opening_of K R.mesh v sides) R) R) y)) (z, w, e);
+          subst (λ (S : Run). Went L S at (Ok k)) (sym (ap (λ (b : Bool). pick b (split_made [] (λ M. M) K (opening_of K R.mesh v sides) R) R) y)) (z, w, e);
     }

@@ -37,8 +37,8 @@ use Rattle.split.proofs.Fitted.{grid_is}
 use Rattle.work.proofs.Placed.{particles_count}
 use Rattle.split.proofs.Stepping.{works_split, works_unsplit}
 use Rattle.split.proofs.StepLaws.{world_mesh}
-use Rattle.work.specs.declared.Ran.{Ran}
-use Rattle.work.specs.declared.Ran.TheVariants.{Done}
+use Rattle.work.specs.Ran.{Ran}
+use Rattle.std.specs.Prelude.{Ok}
 
 -- the inverse mass of a particle, by its place
 pub inverse_at : (k : Counts) (points : List Float) (roots corners : List ℕ) (volumes : List Float) (ends : List ℕ) (lengths : List Float) (outline : List ℕ) (v : ℕ) → v < k.particles
@@ -122,14 +122,14 @@ module _ (K : Kind) (L : Rooms) (k : Counts) (points : List Float) (roots corner
   mesh_is : (q : Counts) → (at q).mesh ≡ mesh_at q points roots corners volumes ends lengths outline
   mesh_is q = world_mesh q points roots corners volumes ends lengths outline log
 
-  stays : splits? (opening_of K M v (take n sides)) M ≡ false → Works (split_by_sides_of K v (take n sides)) L (at k) at (Done k)
+  stays : splits? (opening_of K M v (take n sides)) M ≡ false → Works (split_by_sides_of K v (take n sides)) L (at k) at (Ok k)
   stays e = works_unsplit K v (take n sides) L at k P.counts (ap (λ (X : Mesh). splits? (opening_of K X v (take n sides)) X) (mesh_is k) ∙ e)
 
   module _ {groups : List ℕ} {count : ℕ} (G : GroupsFound K v n verts sides groups count) where
-    pub few_stays : count < 2 → Works (split_by_sides_of K v (take n sides)) L (at k) at (Done k)
+    pub few_stays : count < 2 → Works (split_by_sides_of K v (take n sides)) L (at k) at (Ok k)
     few_stays h = stays (splits_not F G h)
 
-    pub pinned_stays : (t : Bool) → t ≡ ne (get_or points (5 * (length points / point_columns) + v) nan) zero32 → t ≡ false → Works (split_by_sides_of K v (take n sides)) L (at k) at (Done k)
+    pub pinned_stays : (t : Bool) → t ≡ ne (get_or points (5 * (length points / point_columns) + v) nan) zero32 → t ≡ false → Works (split_by_sides_of K v (take n sides)) L (at k) at (Ok k)
     pinned_stays t u e = stays (splits_pinned K M v (take n sides) (ap (λ (x : Float). ne x zero32) inverse_is ∙ sym u ∙ e))
 
     pub split_works : 2 ≤ count → (t : Bool) → t ≡ ne (get_or points (5 * (length points / point_columns) + v) nan) zero32 → t ≡ true → (at' : Counts → World) (r : Ran)
@@ -143,14 +143,14 @@ module _ (K : Kind) (L : Rooms) (k : Counts) (points : List Float) (roots corner
 
 module _ (L : Rooms) (k : Counts) (points : List Float) (roots corners : List ℕ) (volumes : List Float) (ends : List ℕ) (lengths : List Float) (outline log : List ℕ)
     (P : Ready L k (lent points roots corners volumes ends lengths outline log) (mesh_at k points roots corners volumes ends lengths outline)) where
-  pub parts_none : (f : Run → Run) (list : List ℕ) → 2049 ≤ length list → Works f L (world_at k points roots corners volumes ends lengths outline log) (λ q. world_at q points roots corners volumes ends lengths outline log) (Done k)
-      → Works f L (world_at k points roots corners volumes ends lengths outline log) (λ q. world_parted q points roots corners volumes ends lengths outline log (set list 2048 0)) (Done k)
+  pub parts_none : (f : Run → Run) (list : List ℕ) → 2049 ≤ length list → Works f L (world_at k points roots corners volumes ends lengths outline log) (λ q. world_at q points roots corners volumes ends lengths outline log) (Ok k)
+      → Works f L (world_at k points roots corners volumes ends lengths outline log) (λ q. world_parted q points roots corners volumes ends lengths outline log (set list 2048 0)) (Ok k)
       × Listing k.edges (length ends) (length lengths) (set list 2048 0)
   parts_none f list long w =
       let R = P.rooms in
       let C = P.counts in
       let none = cleared list long in (
-        works_unlisted points roots corners volumes ends lengths outline log (set list 2048 0) (Done k) none w,
+        works_unlisted points roots corners volumes ends lengths outline log (set list 2048 0) (Ok k) none w,
         none_listed ends lengths (set list 2048 0) none k.edges (length ends) (length lengths) (omega (arith, length-set list 2048 0)) (omega (arith, C.edges, R.few_edges))
             (record { ends = omega (arith, C.edges, R.ends); lengths = omega (arith, C.edges, R.lengths) }),
       )
@@ -178,7 +178,7 @@ module _ (K : Kind) (L : Rooms) (k : Counts) (points : List Float) (roots corner
 
   -- where it is pinned, the mesh stays as it is
   pub given_pinned : {v : ℕ} {sides : List ℕ} → SidesGiven K (mesh_at k points roots corners volumes ends lengths outline) v sides → (t : Bool) → t ≡ ne (get_or points (5 * (length points / point_columns) + v) nan) zero32 → t ≡ false
-      → Works (split_by_sides_of K v sides) L (world_at k points roots corners volumes ends lengths outline log) (λ q. world_at q points roots corners volumes ends lengths outline log) (Done k)
+      → Works (split_by_sides_of K v sides) L (world_at k points roots corners volumes ends lengths outline log) (λ q. world_at q points roots corners volumes ends lengths outline log) (Ok k)
   given_pinned {v} {sides} S t u e =
       works_unsplit K v sides L (λ q. world_at q points roots corners volumes ends lengths outline log) k P.counts
       (ap (λ (X : Mesh). splits? (opening_of K X v sides) X) (world_mesh k points roots corners volumes ends lengths outline log)
@@ -193,7 +193,7 @@ module _ (K : Kind) (L : Rooms) (k : Counts) (points : List Float) (roots corner
 
     module _ {sides : List ℕ} (S : SidesGiven K (mesh_at k points roots corners volumes ends lengths outline) v sides) where
       -- there are as many sides as elements
-      sides_count : n ≡ length sides
+      pub sides_count : n ≡ length sides
       unfolding mesh_at
       sides_count = F.count (mesh_at k points roots corners volumes ends lengths outline) refl refl ∙ sym S.every
 
@@ -230,11 +230,11 @@ nothing_splits X v (x ∷ l) e = absurd (omega (arith, e))
 pub nothing_works : (L : Rooms) (k : Counts) (points : List Float) (roots corners : List ℕ) (volumes : List Float) (ends : List ℕ) (lengths : List Float) (outline log : List ℕ)
     → Ready L k (lent points roots corners volumes ends lengths outline log) (mesh_at k points roots corners volumes ends lengths outline) → (K : Kind) → K ≡ Nothing → (v : ℕ) (sides : List ℕ)
     → SidesGiven K (mesh_at k points roots corners volumes ends lengths outline) v sides
-    → Works (split_by_sides_of K v sides) L (world_at k points roots corners volumes ends lengths outline log) (λ q. world_at q points roots corners volumes ends lengths outline log) (Done k)
+    → Works (split_by_sides_of K v sides) L (world_at k points roots corners volumes ends lengths outline log) (λ q. world_at q points roots corners volumes ends lengths outline log) (Ok k)
 nothing_works L k points roots corners volumes ends lengths outline log P K e v sides S =
     let M = mesh_at k points roots corners volumes ends lengths outline in
     let T : SidesGiven Nothing M v sides = subst (λ (X : Kind). SidesGiven X M v sides) e S in
-    subst (λ (X : Kind). Works (split_by_sides_of X v sides) L (world_at k points roots corners volumes ends lengths outline log) (λ q. world_at q points roots corners volumes ends lengths outline log) (Done k)) (sym e)
+    subst (λ (X : Kind). Works (split_by_sides_of X v sides) L (world_at k points roots corners volumes ends lengths outline log) (λ q. world_at q points roots corners volumes ends lengths outline log) (Ok k)) (sym e)
     (works_unsplit Nothing v sides L (λ q. world_at q points roots corners volumes ends lengths outline log) k P.counts
     (ap (λ (X : Mesh). splits? (opening_of Nothing X v sides) X) (world_mesh k points roots corners volumes ends lengths outline log) ∙ nothing_splits M v sides T.every))
 

@@ -1,5 +1,5 @@
 -- What the parts of a split ask of the blocks and tables that they are lent, and what they tell, as their contracts name them (Rattle.mesh.specs.Blocks). Definitions only.
-use Rattle.std.specs.Prelude.{ℕ, ◌≤◌, length}
+use Rattle.std.specs.Prelude.{ℕ, ◌≤◌, length, Option}
 use Rattle.model.specs.Mesh.{Mesh}
 use Rattle.model.specs.Elements.{Kind}
 use Rattle.mesh.specs.At.{mesh_at}
@@ -9,11 +9,10 @@ use Rattle.mesh.specs.declared.Counts.{Counts}
 use Rattle.mesh.specs.declared.Rooms.{Rooms}
 use Rattle.links.specs.Linked.{FrontLinked, MeshLinked}
 use Rattle.work.specs.Places.{EndsIn}
-use Rattle.work.specs.declared.Ran.{Ran}
-use Rattle.work.specs.declared.Grown.{Grown}
+use Rattle.work.specs.Ran.{Ran}
 use Rattle.edge_drops.specs.Parted.{world_parted, ListingAfter, parted_behind, ListedBehind}
 use Rattle.boundary.specs.Faces.{GrownLinked}
-use Rattle.split.specs.declared.Grew.{Grew}
+use Rattle.split.specs.Grew.{Grew}
 use Rattle.split.specs.Tables.{FanGrouped, FanSided, TablesFit}
 use Rattle.split.specs.Steps.{GrowRoom, GrowthTold}
 use Rattle.split.specs.Growing.{StrapsNamed, ElementsRoom}
@@ -97,7 +96,7 @@ OpenIn K v before n count b room numbers verts groups points corners outline tab
     × FacetsLinked K n b room numbers.now corners.now outline.now table.now
     × ListIn list
 
-abbrev pub OpenedIn : Kind → ℕ → ℕ → ℕ → ℕ → ℕ → ℕ → Indices → Indices → Indices → Numbers → Indices → LentIndices → LentIndices → Grown → Type 0
+abbrev pub OpenedIn : Kind → ℕ → ℕ → ℕ → ℕ → ℕ → ℕ → Indices → Indices → Indices → Numbers → Indices → LentIndices → LentIndices → Option ℕ → Type 0
 OpenedIn K v before n count b room numbers verts groups points corners outline table r =
     BoundaryTold K v before n count b room numbers.entry.now verts.entry.now groups.entry.now points.entry.now corners.entry.now outline.entry.now outline.exit.now r
     × GrownLinked r outline.exit.now table.exit.now

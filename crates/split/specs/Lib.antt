@@ -1,4 +1,5 @@
 -- A split, step by step, over the lent blocks.
+pub mod Grew
 pub mod Tables
 pub mod Steps
 pub mod Growing

@@ -1,5 +1,5 @@
 -- The tables of triangles, edges and boundary entries through a split: what the workers ask of them, and what they leave. Definitions only.
-use Rattle.std.specs.Prelude.{ℕ, ◌+◌, ◌/◌, ◌<◌, ◌≤◌, ◌≡◌, List, length, get_or, take, drop}
+use Rattle.std.specs.Prelude.{ℕ, ◌+◌, ◌/◌, ◌<◌, ◌≤◌, ◌≡◌, List, length, get_or, take, drop, Ok, Err}
 use Rattle.columns.specs.Block.{cell}
 use Rattle.model.specs.Elements.{Kind, Triangles}
 use Rattle.model.specs.Split.{copy_for_of}
@@ -8,22 +8,20 @@ use Rattle.links.specs.Rooms.{CornersApart}
 use Rattle.links.specs.Linked.{FrontLinked, MeshLinked}
 use Rattle.edge_drops.specs.Parted.{listed}
 use Rattle.boundary.specs.Faces.{FanApart, FacetTable}
-use Rattle.work.specs.declared.Ran.{Ran}
-use Rattle.work.specs.declared.Ran.TheVariants.{Refused, Done}
-use Rattle.split.specs.declared.Grew.{Grew}
-use Rattle.split.specs.declared.Grew.TheVariants.{Lacking, Longest}
+use Rattle.work.specs.Ran.{Ran}
+use Rattle.split.specs.Grew.{Grew}
 use Rattle.mesh.specs.Widths.{corner_columns}
 use Rattle.mesh.specs.Limits.{particle_limit, triangle_limit}
 
 -- behind a worker: where it is done, the tables are those of the blocks again
 abbrev pub LinkedAfter : Kind → List ℕ → List ℕ → List ℕ → List ℕ → Ran → Type 0
-LinkedAfter K corners ends outline links (Refused c) = Unit {0}
-LinkedAfter K corners ends outline links (Done q) = MeshLinked K q.triangles q.edges q.boundary corners ends outline links
+LinkedAfter K corners ends outline links (Err c) = Unit {0}
+LinkedAfter K corners ends outline links (Ok q) = MeshLinked K q.triangles q.edges q.boundary corners ends outline links
 
 -- the same where edges are listed that are to go: the tables are those of the blocks with the listed edges
 abbrev pub LinkedListed : Kind → List ℕ → List ℕ → List ℕ → List ℕ → List ℕ → Ran → Type 0
-LinkedListed K corners ends outline links list (Refused c) = Unit {0}
-LinkedListed K corners ends outline links list (Done q) = MeshLinked K q.triangles (q.edges + listed list) q.boundary corners ends outline links
+LinkedListed K corners ends outline links list (Err c) = Unit {0}
+LinkedListed K corners ends outline links list (Ok q) = MeshLinked K q.triangles (q.edges + listed list) q.boundary corners ends outline links
 
 -- ---- only contracts between workers need what follows
 
@@ -33,8 +31,8 @@ FrontKept K t e corners ends links₀ links = FrontLinked K t e corners ends lin
 
 -- behind parts 1 to 3: where they had room, the front of the tables is that of the blocks again
 abbrev pub LinkedGrown : Kind → ℕ → List ℕ → List ℕ → List ℕ → List ℕ → Grew → Type 0
-LinkedGrown K t corners ends links₀ links (Lacking c) = Unit {0}
-LinkedGrown K t corners ends links₀ links (Longest e) = FrontKept K t e corners ends links₀ links
+LinkedGrown K t corners ends links₀ links (Err c) = Unit {0}
+LinkedGrown K t corners ends links₀ links (Ok e) = FrontKept K t e corners ends links₀ links
 
 -- where the elements are triangles, the corners of each that the first n numbers name are different ones of 1,024 particles
 abbrev pub FanSound : Kind → ℕ → List ℕ → List ℕ → Type 0

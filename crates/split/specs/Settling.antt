@@ -1,5 +1,5 @@
 -- Parts 4 to 6 of a split and its log, worker by worker. Only contracts between workers need this file. Definitions only.
-use Rattle.std.specs.Prelude.{ℕ, ◌+◌, ◌-◌, ◌/◌, ◌<◌, ◌≤◌, ◌≡◌, not, List, map, ◌++◌, length, get_or, take, Float}
+use Rattle.std.specs.Prelude.{ℕ, ◌+◌, ◌-◌, ◌/◌, ◌<◌, ◌≤◌, ◌≡◌, not, List, map, ◌++◌, length, get_or, take, Float, Ok, Err, Option}
 use Rattle.lists.specs.Lists.{sift, up_to}
 use Rattle.model.specs.Mesh.{Edge, Mesh}
 use Rattle.model.specs.Elements.{Kind, Triangles, corners_per_of}
@@ -14,14 +14,13 @@ use Rattle.mesh.specs.Limits.{particle_limit, edge_limit}
 use Rattle.split_plan.specs.Opened.{Ringed, Numbered, RingRoom, RestsIn, CornersBelow}
 use Rattle.work.specs.Rows.{GrownTo}
 use Rattle.straddling.specs.Tests.{Straddling, StraddleRoom}
-use Rattle.work.specs.declared.Grown.{Grown}
 use Rattle.work.specs.Places.{EndsIn, SidesIn}
 use Rattle.edge_drops.specs.Parted.{listed, edges_parted, Listing}
 use Rattle.split.specs.Steps.{logged_of, SettlingTold}
 use Rattle.work.specs.Working.{SettleRoom}
 use Rattle.work.specs.Removal.{gone_words, ListNoteRoom}
-use Rattle.work.specs.declared.Ran.{Ran}
-use Rattle.work.specs.declared.Ran.TheVariants.{Refused, Done}
+use Rattle.work.specs.Ran.{Ran}
+use Rattle.mesh.specs.Refused.{number_of}
 
 -- ---- 5 and 6: boundary and crack facets
 
@@ -46,7 +45,7 @@ pub record FacetsAsked (K : Kind) (before n count b room : ℕ) (numbers : List 
   pub columns : room ≤ lo / side_columns
 
 -- the crack facets of a split stand behind the b entries
-pub record FacetsTold (K : Kind) (v before n count b room : ℕ) (numbers verts groups : List ℕ) (corners outline outline' : List ℕ) (r : Grown) : Type 0 where
+pub record FacetsTold (K : Kind) (v before n count b room : ℕ) (numbers verts groups : List ℕ) (corners outline outline' : List ℕ) (r : Option ℕ) : Type 0 where
   pub facets :
       (O : Opening) (M : Mesh) (t : ℕ) (volumes points : List Float) → BoundaryIn K O M t volumes v before n count numbers verts groups points corners
       → GrownTo r room (boundary_at b outline ++ crack_facets K M O) (λ q. boundary_at q outline')
@@ -62,7 +61,7 @@ pub record BoundaryAsked (K : Kind) (v before n count b room : ℕ) (numbers ver
   pub sides : SidesIn before b outline
 
 -- the b entries follow their groups, and the crack facets stand behind them
-pub record BoundaryTold (K : Kind) (v before n count b room : ℕ) (numbers verts groups : List ℕ) (points : List Float) (corners outline outline' : List ℕ) (r : Grown) : Type 0 where
+pub record BoundaryTold (K : Kind) (v before n count b room : ℕ) (numbers verts groups : List ℕ) (points : List Float) (corners outline outline' : List ℕ) (r : Option ℕ) : Type 0 where
   pub sides :
       (O : Opening) (M : Mesh) (t : ℕ) (volumes : List Float) → BoundaryIn K O M t volumes v before n count numbers verts groups points corners
       → GrownTo r room (map (followed M O) (boundary_at b outline) ++ crack_facets K M O) (λ q. boundary_at q outline')
@@ -115,8 +114,8 @@ pub record EdgesListed (K : Kind) (O : Opening) (M : Mesh) (L : Rooms) (k q : Co
 
 -- what was told of the straddlers: the log lacks room; or the new counts
 abbrev pub PartedTo : Kind → Opening → Mesh → Rooms → Counts → ℕ → ℕ → List ℕ → List Float → List ℕ → List ℕ → List ℕ → Ran → Type 0
-PartedTo K O M L k extra rows ends lengths list' log log' (Refused c) = (c ≡ entry_refusal) × (L.log < k.log + (length (logged_of K O M) + extra))
-PartedTo K O M L k extra rows ends lengths list' log log' (Done q) = EdgesListed K O M L k q extra rows ends lengths list' log log'
+PartedTo K O M L k extra rows ends lengths list' log log' (Err c) = (number_of c ≡ entry_refusal) × (L.log < k.log + (length (logged_of K O M) + extra))
+PartedTo K O M L k extra rows ends lengths list' log log' (Ok q) = EdgesListed K O M L k q extra rows ends lengths list' log log'
 
 -- for every split that the tables hold
 pub record PartedFor (K : Kind) (L : Rooms) (k : Counts) (v before n count extra rows : ℕ) (verts groups corners ends list' log log' : List ℕ) (r : Ran) : Type 0 where
@@ -133,8 +132,8 @@ pub record RowsListed (k q : Counts) (rows le : ℕ) (list : List ℕ) : Type 0 
 
 -- behind a worker that came to r, where it is done
 abbrev pub RowsAfter : Counts → ℕ → ℕ → List ℕ → Ran → Type 0
-RowsAfter k rows le list (Refused c) = Unit {0}
-RowsAfter k rows le list (Done q) = RowsListed k q rows le list
+RowsAfter k rows le list (Err c) = Unit {0}
+RowsAfter k rows le list (Ok q) = RowsListed k q rows le list
 
 -- ---- the whole
 

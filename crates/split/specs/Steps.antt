@@ -1,5 +1,5 @@
 -- One split over the blocks, in its two halves: parts 1 to 3, where the edges are at their longest, and parts 4 to 6 with the log. Definitions only.
-use Rattle.std.specs.Prelude.{ℕ, ◌+◌, ◌-◌, ◌/◌, ◌<◌, ◌≤◌, ◌≡◌, List, map, ◌++◌, length, Float}
+use Rattle.std.specs.Prelude.{ℕ, ◌+◌, ◌-◌, ◌/◌, ◌<◌, ◌≤◌, ◌≡◌, List, map, ◌++◌, length, Float, Ok, Err}
 use Rattle.model.specs.Mesh.{Mesh}
 use Rattle.model.specs.Elements.{Kind}
 use Rattle.model.specs.Run.{Entry, Need}
@@ -13,10 +13,9 @@ use Rattle.mesh.specs.Widths.{point_columns, corner_columns, end_columns, length
 use Rattle.mesh.specs.Limits.{particle_limit, triangle_limit, edge_limit}
 use Rattle.work.specs.Working.{Within}
 use Rattle.split.specs.Tables.{Opens}
-use Rattle.work.specs.declared.Ran.{Ran}
-use Rattle.work.specs.declared.Ran.TheVariants.{Refused, Done}
-use Rattle.split.specs.declared.Grew.{Grew}
-use Rattle.split.specs.declared.Grew.TheVariants.{Lacking, Longest}
+use Rattle.work.specs.Ran.{Ran}
+use Rattle.split.specs.Grew.{Grew}
+use Rattle.mesh.specs.Refused.{number_of}
 
 -- ---- parts 1 to 3
 
@@ -39,9 +38,9 @@ grown_counts k p e = record { particles = p; triangles = k.triangles; edges = e;
 
 -- what was told after parts 1 to 3 of a split of M: the room that lacks, whatever the rest of the step needs; or how many edges there are at their longest
 abbrev pub GrewTo : Kind → Opening → Rooms → Counts → Mesh → (Counts → Mesh) → Grew → Type 0
-GrewTo K O L k M at (Lacking c) =
-    ((b l : ℕ) → too_small (as_rooms L) (record { particles = length (at_longest K O M).particles; edges = length (at_longest K O M).edges; boundary = b; log = l }) ≡ c) × (0 < c)
-GrewTo K O L k M at (Longest e) =
+GrewTo K O L k M at (Err c) =
+    ((b l : ℕ) → too_small (as_rooms L) (record { particles = length (at_longest K O M).particles; edges = length (at_longest K O M).edges; boundary = b; log = l }) ≡ number_of c) × (0 < number_of c)
+GrewTo K O L k M at (Ok e) =
     (k.particles + O.count - 1 ≤ L.particles) × (e ≤ L.edges) × (at (grown_counts k (k.particles + O.count - 1) e) ≡ at_longest K O M)
 
 -- for every split that the tables hold, and whatever stands in the other blocks
@@ -61,11 +60,11 @@ settled_world K O W = record { mesh = settled K O W.mesh; log = W.log ++ map wor
 
 -- what was told after parts 4 to 6 with `extra` entries to come: the room that lacks, where particles and edges have theirs; or the new counts
 abbrev pub SettledTo : Kind → Opening → Rooms → ℕ → World → (Counts → World) → Ran → Type 0
-SettledTo K O L extra W at (Refused c) =
+SettledTo K O L extra W at (Err c) =
     ((p e : ℕ) → p ≤ L.particles → e ≤ L.edges
-    → too_small (as_rooms L) (record { particles = p; edges = e; boundary = length (settled K O W.mesh).boundary; log = length W.log + (length (logged_of K O W.mesh) + extra) }) ≡ c)
-    × (0 < c)
-SettledTo K O L extra W at (Done k) =
+    → too_small (as_rooms L) (record { particles = p; edges = e; boundary = length (settled K O W.mesh).boundary; log = length W.log + (length (logged_of K O W.mesh) + extra) }) ≡ number_of c)
+    × (0 < number_of c)
+SettledTo K O L extra W at (Ok k) =
     (length (settled K O W.mesh).boundary ≤ L.boundary) × (length W.log + (length (logged_of K O W.mesh) + extra) ≤ L.log) × Within k L
     × (at k ≡ settled_world K O W)
 
@@ -88,5 +87,5 @@ split_world K O W = settled_world K O (record { mesh = at_longest K O W.mesh; lo
 
 -- what was told after the step: the room that lacks; or the new counts, with room for `extra` entries
 abbrev pub Stepped : Kind → Opening → Rooms → ℕ → World → (Counts → World) → Ran → Type 0
-Stepped K O L extra W at (Refused c) = (too_small (as_rooms L) (need_of K O extra W) ≡ c) × (0 < c)
-Stepped K O L extra W at (Done k) = (too_small (as_rooms L) (need_of K O extra W) ≡ 0) × Within k L × (k.log + extra ≤ L.log) × (at k ≡ split_world K O W)
+Stepped K O L extra W at (Err c) = (too_small (as_rooms L) (need_of K O extra W) ≡ number_of c) × (0 < number_of c)
+Stepped K O L extra W at (Ok k) = (too_small (as_rooms L) (need_of K O extra W) ≡ 0) × Within k L × (k.log + extra ≤ L.log) × (at k ≡ split_world K O W)

@@ -12,8 +12,8 @@ ghost use Rattle.mesh.specs.Limits.{particle_limit, triangle_limit};
 
 use crate::Grew;
 use elements::Kind;
+use mesh::refusals::Refusal;
 use mesh::{Counts, Rooms};
-use work::Grown;
 
 // Puts the copies of the groups for v in the corners of the fan's triangles. The table goes first: it finds v by the corners before the split.
 fn rewire_linked(
@@ -139,7 +139,7 @@ pub fn grow(
 {
     let before = k.particles;
     if room.particles - before < count - 1 {
-        return Grew::Lacking(5);
+        return Err(Refusal::Particles);
     }
     let t = k.triangles;
     let e = k.edges;
@@ -165,9 +165,9 @@ pub fn grow(
         &mut links[links::EDGES_FROM..links::SIDES_FROM],
         list,
     );
-    let Grown::Rows(m) = grown else {
-        return Grew::Lacking(6);
+    let Some(m) = grown else {
+        return Err(Refusal::Edges);
     };
     share_out(v, before, n, count, groups, measures, points, roots);
-    Grew::Longest(m)
+    Ok(m)
 }

@@ -6,9 +6,7 @@ pub mod grow;
 pub mod settle;
 pub mod step;
 
-// What the first half of a split came to: the number of the room that lacks, or the number of edges at their longest.
-#[derive(Clone, Copy)]
-pub enum Grew {
-    Lacking(usize),
-    Longest(usize),
-}
+use mesh::refusals::Refusal;
+
+// What the first half of a split came to: the refusal of the room that lacks, or the number of edges at their longest.
+pub type Grew = Result<usize, Refusal>;

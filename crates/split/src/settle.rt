@@ -8,8 +8,9 @@ ghost use Rattle.split.specs.Blocks.{ListIn, FrontIn, OpenIn, OpenedIn, SettleIn
 ghost use Rattle.mesh.specs.Widths.{entry_words};
 
 use elements::Kind;
+use mesh::refusals::Refusal;
 use mesh::{Counts, Rooms};
-use work::{Grown, Ran};
+use work::Ran;
 
 // Where the elements are triangles, appends the crack facets to the b entries of the outline, and to their table.
 fn open_facets(
@@ -26,7 +27,7 @@ fn open_facets(
     corners: &[usize],
     outline: &mut [usize],
     table: &mut [u16],
-) -> Grown
+) -> Option<usize>
     requires { let K = kind_is kind in FacetsAsked K before n count b room numbers.now (length verts.now) (length groups.now)
         (length corners.now) (length outline.old) × FacetsLinked K n b room numbers.now corners.now outline.old table.old }
     ensures { FacetsTold (kind_is kind) v before n count b room numbers.now verts.now groups.now
@@ -36,8 +37,8 @@ fn open_facets(
         Kind::Triangles => boundary::facets::crack_facets(
             v, before, n, count, b, room, numbers, verts, groups, corners, outline, table,
         ),
-        Kind::Straps => Grown::Rows(b),
-        Kind::Nothing => Grown::Rows(b),
+        Kind::Straps => Some(b),
+        Kind::Nothing => Some(b),
     }
 }
 
@@ -58,7 +59,7 @@ fn open_boundary(
     outline: &mut [usize],
     table: &mut [u16],
     list: &mut [usize],
-) -> Grown
+) -> Option<usize>
     requires { OpenIn (kind_is kind) v before n count b room numbers verts groups points corners outline table list }
     ensures { OpenedIn (kind_is kind) v before n count b room numbers verts groups points corners outline table result }
 {
@@ -87,10 +88,8 @@ fn note_copies(v: usize, before: usize, m: usize, at: usize, log: &mut [u32])
     requires { (before + m ≤ 65536) × (at + m ≤ length log.old / entry_words) × (v < before) }
     ensures { CopiesNoted v before m at log.old log.new }
 {
-    let mut i: usize = 0;
-    while i < m {
+    for i in 0..m {
         work::notes::note(at + i, 1, (before + i) as u32, v as u32, 0, 0, 0, log);
-        i += 1;
     }
 }
 
@@ -155,11 +154,11 @@ fn part_straddlers(
     );
     let m = count - 1;
     if !log_fits(room.log - k.log, m, s, extra) {
-        return Ran::Refused(mesh::refusals::ENTRIES);
+        return Err(Refusal::Entries);
     }
     let entries = note_split(v, before, m, k.log, s, list, ends, log);
     list[edge_drops::LISTED] = s;
-    Ran::Done(Counts {
+    Ok(Counts {
         particles: k.particles,
         triangles: k.triangles,
         edges: k.edges - s,
@@ -213,8 +212,8 @@ pub fn settle(
         &mut links[links::SIDES_FROM..],
         list,
     );
-    let Grown::Rows(rows) = grown else {
-        return Ran::Refused(mesh::refusals::BOUNDARY);
+    let Some(rows) = grown else {
+        return Err(Refusal::Boundary);
     };
     part_straddlers(
         kind, v, before, n, count, extra, rows, k, room, verts, groups, corners, ends, log, list,

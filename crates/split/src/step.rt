@@ -4,6 +4,7 @@ ghost use Rattle.std.specs.Float.{nan};
 ghost use Rattle.std.specs.Float.Ieee.{ne};
 ghost use Rattle.float.specs.Numbers.{zero32};
 ghost use Rattle.elements.specs.Table.{kind_is};
+ghost use Rattle.model.specs.Elements.{corners_per_of};
 ghost use Rattle.model.specs.Split.{split_by_sides_of};
 ghost use Rattle.mesh.specs.Filled.{lent};
 ghost use Rattle.mesh.specs.Widths.{point_columns};
@@ -55,26 +56,21 @@ pub fn split_opened(
     let t = k.triangles;
     let b = k.boundary;
     let g = k.log;
-    let grew = crate::grow::grow(
+    let e = crate::grow::grow(
         kind, v, n, count, numbers, verts, measures, groups, k, room, points, roots, corners, ends,
         lengths, list, links,
-    );
-    match grew {
-        Grew::Lacking(c) => Ran::Refused(c),
-        Grew::Longest(e) => {
-            let longest = Counts {
-                particles: before + count - 1,
-                triangles: t,
-                edges: e,
-                boundary: b,
-                log: g,
-            };
-            crate::settle::settle(
-                kind, v, before, n, count, extra, numbers, verts, groups, longest, room, points,
-                corners, volumes, ends, lengths, outline, log, list, links,
-            )
-        }
-    }
+    )?;
+    let longest = Counts {
+        particles: before + count - 1,
+        triangles: t,
+        edges: e,
+        boundary: b,
+        log: g,
+    };
+    crate::settle::settle(
+        kind, v, before, n, count, extra, numbers, verts, groups, longest, room, points, corners,
+        volumes, ends, lengths, outline, log, list, links,
+    )
 }
 
 // Is v free: is its inverse mass not 0?
@@ -118,7 +114,7 @@ pub fn split_tabled(
     list[edge_drops::LISTED] = 0;
     let count = crate::fans::group_fan(kind, v, n, verts, sides, groups);
     if count < 2 {
-        return Ran::Done(k);
+        return Ok(k);
     }
     if is_free(v, points) {
         return split_opened(
@@ -126,11 +122,11 @@ pub fn split_tabled(
             corners, volumes, ends, lengths, outline, log, list, links,
         );
     }
-    Ran::Done(k)
+    Ok(k)
 }
 
-// Splits v by a side for each element of its fan, in tables with room for any fan.
-fn split_many(
+// Splits v by a side for each element of its fan, in tables of its own for N elements and C corners, where these are enough for so many sides.
+fn split_in<const N: usize, const C: usize>(
     kind: Kind,
     v: usize,
     sides: &[usize],
@@ -149,14 +145,15 @@ fn split_many(
 ) -> Ran
     requires { let K = kind_is kind in ReadyIn room k points roots corners volumes ends lengths outline log
         × SidesGiven K (mesh_in k points roots corners volumes ends lengths outline) v sides.now × ListIn list
-        × LinkedIn K k corners ends outline links }
+        × LinkedIn K k corners ends outline links × (N ≤ 2048) × (C ≤ 4096) × (length sides.now ≤ 2048 → length sides.now ≤ N)
+        × (length sides.now * corners_per_of K ≤ 4096 → length sides.now * corners_per_of K ≤ C) }
     ensures { PartsIn (split_by_sides_of (kind_is kind) v sides.now) room k points roots corners volumes ends lengths outline
         log list result }
 {
-    let mut numbers = [0usize; MANY];
-    let mut verts = [0usize; MANY_CORNERS];
-    let mut measures = [0.0f32; MANY];
-    let mut groups = [0usize; MANY];
+    let mut numbers = [0usize; N];
+    let mut verts = [0usize; C];
+    let mut measures = [0.0f32; N];
+    let mut groups = [0usize; N];
     let n = fan_tables(
         kind,
         v,
@@ -171,78 +168,6 @@ fn split_many(
         &mut measures,
         links,
     );
-    split_tabled(
-        kind,
-        v,
-        n,
-        &numbers,
-        &verts,
-        &measures,
-        sides,
-        &mut groups,
-        k,
-        room,
-        points,
-        roots,
-        corners,
-        volumes,
-        ends,
-        lengths,
-        outline,
-        log,
-        list,
-        links,
-    )
-}
-
-// The same in small tables, if the fan is small.
-fn split_few(
-    kind: Kind,
-    v: usize,
-    sides: &[usize],
-    k: Counts,
-    room: Rooms,
-    points: &mut [f32],
-    roots: &mut [usize],
-    corners: &mut [usize],
-    volumes: &[f32],
-    ends: &mut [usize],
-    lengths: &mut [f32],
-    outline: &mut [usize],
-    log: &mut [u32],
-    list: &mut [usize],
-    links: &mut [u16],
-) -> Ran
-    requires { let K = kind_is kind in ReadyIn room k points roots corners volumes ends lengths outline log
-        × SidesGiven K (mesh_in k points roots corners volumes ends lengths outline) v sides.now × ListIn list
-        × LinkedIn K k corners ends outline links }
-    ensures { PartsIn (split_by_sides_of (kind_is kind) v sides.now) room k points roots corners volumes ends lengths outline
-        log list result }
-{
-    let mut numbers = [0usize; FEW];
-    let mut verts = [0usize; FEW_CORNERS];
-    let mut measures = [0.0f32; FEW];
-    let mut groups = [0usize; FEW];
-    let n = fan_tables(
-        kind,
-        v,
-        k.triangles,
-        k.edges,
-        corners,
-        volumes,
-        ends,
-        lengths,
-        &mut numbers,
-        &mut verts,
-        &mut measures,
-        links,
-    );
-    if n > FEW {
-        return split_many(
-            kind, v, sides, k, room, points, roots, corners, volumes, ends, lengths, outline, log,
-            list, links,
-        );
-    }
     split_tabled(
         kind,
         v,
@@ -291,7 +216,7 @@ fn split_fan(
 {
     list[edge_drops::LISTED] = 0;
     if !is_free(v, points) {
-        return Ran::Done(k);
+        return Ok(k);
     }
     let mut links = [0u16; links::PLACES];
     links::link_mesh(
@@ -304,7 +229,13 @@ fn split_fan(
         outline,
         &mut links,
     );
-    split_few(
+    if sides.len() <= FEW {
+        return split_in::<FEW, FEW_CORNERS>(
+            kind, v, sides, k, room, points, roots, corners, volumes, ends, lengths, outline, log,
+            list, &mut links,
+        );
+    }
+    split_in::<MANY, MANY_CORNERS>(
         kind, v, sides, k, room, points, roots, corners, volumes, ends, lengths, outline, log,
         list, &mut links,
     )
@@ -367,7 +298,7 @@ pub fn split_by_sides(
         ),
         Kind::Nothing => {
             list[edge_drops::LISTED] = 0;
-            Ran::Done(k)
+            Ok(k)
         }
     }
 }

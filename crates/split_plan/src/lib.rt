@@ -32,14 +32,12 @@ pub fn ring_has(x: usize, g: usize, n: usize, k: usize, verts: &[usize], groups:
     requires { RingRoom n k (length verts.now) (length groups.now) }
     ensures { RingHas x g n k verts.now groups.now result }
 {
-    let mut i = 0;
-    while i < n {
+    for i in 0..n {
         if groups[i] == g {
             if row_has(x, i, k, verts) {
                 return true;
             }
         }
-        i += 1;
     }
     false
 }
@@ -58,8 +56,7 @@ pub fn next_group(
     ensures { NextGroup x from count n k verts.now groups.now result }
 {
     let mut best = count;
-    let mut i = 0;
-    while i < n {
+    for i in 0..n {
         let g = groups[i];
         if from <= g {
             if g < best {
@@ -68,7 +65,6 @@ pub fn next_group(
                 }
             }
         }
-        i += 1;
     }
     best
 }
@@ -78,12 +74,10 @@ pub fn in_ring(x: usize, n: usize, k: usize, verts: &[usize]) -> bool
     requires { RingRoom n k (length verts.now) n }
     ensures { InRing x n k verts.now result }
 {
-    let mut i = 0;
-    while i < n {
+    for i in 0..n {
         if row_has(x, i, k, verts) {
             return true;
         }
-        i += 1;
     }
     false
 }
@@ -93,14 +87,12 @@ fn meets(x: usize, y: usize, n: usize, k: usize, verts: &[usize], groups: &[usiz
     requires { RingRoom n k (length verts.now) (length groups.now) }
     ensures { Meets x y n k verts.now groups.now result }
 {
-    let mut i = 0;
-    while i < n {
+    for i in 0..n {
         if row_has(x, i, k, verts) {
             if ring_has(y, groups[i], n, k, verts, groups) {
                 return true;
             }
         }
-        i += 1;
     }
     false
 }
@@ -125,13 +117,11 @@ pub fn weight_of(g: usize, n: usize, groups: &[usize], measures: &[f32]) -> f32
     ensures { WeightIs g n groups.now measures.now result }
 {
     let mut w: f32 = 0.0;
-    let mut i = 0;
-    while i < n {
+    for i in 0..n {
         if groups[i] == g {
             let m = measures[i];
             w = w + m;
         }
-        i += 1;
     }
     w
 }
@@ -142,11 +132,9 @@ pub fn total_weight(n: usize, count: usize, groups: &[usize], measures: &[f32]) 
     ensures { TotalIs n count groups.now measures.now result }
 {
     let mut total: f32 = 0.0;
-    let mut g = 0;
-    while g < count {
+    for g in 0..count {
         let w = weight_of(g, n, groups, measures);
         total = total + w;
-        g += 1;
     }
     total
 }
@@ -221,14 +209,12 @@ fn best_in(
     ensures { BestIn b dir g v row.now points.now result }
 {
     let mut best = b;
-    let mut i = 0;
-    while i < row.len() {
+    for i in 0..row.len() {
         let w = row[i];
         if w != v {
-            let d = blade::minus(rest_point(w, points), home);
+            let d = rest_point(w, points) - home;
             best = better(best, score(d, dir), g);
         }
-        i += 1;
     }
     best
 }
@@ -249,13 +235,11 @@ fn fan_best(
     ensures { FanBest b dir v n k verts.now groups.now points.now result }
 {
     let mut best = b;
-    let mut i = 0;
-    while i < n {
+    for i in 0..n {
         let at = i * k;
         let end = at + k;
         let g = groups[i];
         best = best_in(best, dir, g, v, home, &verts[at..end], points);
-        i += 1;
     }
     best
 }
@@ -275,7 +259,7 @@ pub fn group_toward(
 {
     let home = rest_point(v, points);
     let start = Point { x: 0.0, y: 0.0 };
-    let dir = blade::plus(start, blade::minus(rest_point(x, points), home));
+    let dir = start + (rest_point(x, points) - home);
     let none = Best {
         score: -3.4028235e38,
         group: 0,

@@ -27,10 +27,10 @@ use Rattle.work.specs.Working.{Within, Went, WorksBeside}
 use Rattle.work.specs.Places.{EndsIn, SidesIn}
 use Rattle.straddlers.specs.Straddling.{across_by, PiecesTold, EdgesMarked, SidesMarked}
 use Rattle.work.specs.Removal.{marked, marked_of, gone_words, GoneTo}
-use Rattle.work.specs.declared.Ran.{Ran}
-use Rattle.work.specs.declared.Ran.TheVariants.{Refused, Done}
+use Rattle.work.specs.Ran.{Ran}
 use Rattle.work.proofs.Removals.{gone_words_lem}
 use Rattle.work.proofs.Runs.{room_enough, log_lacks, need_behind, StepTold, went_step}
+use Rattle.std.specs.Prelude.{Ok, Err}
 
 -- ---- masks and sifts
 
@@ -147,13 +147,13 @@ module _ (K : Kind) (k : Counts) (points : List Float) (roots corners : List ℕ
       told : (r : Ran) → GoneTo L k edge_mask side_mask ends ends' lengths lengths' outline outline' log log' r
           → StepTold L R (left_of K R.mesh) (gone_of K R.mesh) (length R.mesh.edges) (length R.mesh.boundary) (λ q. world_at q points roots corners volumes ends' lengths' outline' log') r
       unfolding world_at mesh_at
-      told (Refused c) G = (
+      told (Err c) G = (
         log_lacks (as_rooms L) (need_behind R (left_of K R.mesh) (gone_of K R.mesh) (length R.mesh.edges) (length R.mesh.boundary))
             (omega (arith, particles_count, W.particles)) (omega (arith, edges_count, W.edges)) (omega (arith, boundary_count, W.boundary)) (omega (arith, log_count, G.1))
             ∙ sym G.0,
         omega (arith, G.0),
       )
-      told (Done q) G = (
+      told (Ok q) G = (
         room_enough (as_rooms L) (need_behind R (left_of K R.mesh) (gone_of K R.mesh) (length R.mesh.edges) (length R.mesh.boundary))
             (omega (arith, particles_count, W.particles)) (omega (arith, edges_count, W.edges)) (omega (arith, boundary_count, W.boundary))
             (omega (arith, log_count, log_length q.log log', ap length G.entries, length-append (log_at k.log log) (map (gone_words ends) (marked_of edge_mask k.edges)), log_length k.log log, length-map (marked_of edge_mask k.edges) (gone_words ends), G.few_log)),
@@ -205,12 +205,12 @@ straddlers_gone_lem K L k corners volumes ends lengths outline log parent used e
 -- a mesh of nothing stays
 pub nothing_gone : (K : Kind) (L : Rooms) (k : Counts) (corners : List ℕ) (volumes : List Float) (ends : List ℕ) (lengths : List Float) (outline log : List ℕ) → K ≡ Nothing → Within k L
     → WorksBeside (remove_straddlers_of K) L (λ points roots. world_at k points roots corners volumes ends lengths outline log)
-    (λ points roots q. world_at q points roots corners volumes ends lengths outline log) (Done k)
+    (λ points roots q. world_at q points roots corners volumes ends lengths outline log) (Ok k)
 unfolding remove_straddlers_of
 nothing_gone K L k corners volumes ends lengths outline log e W =
     subst (λ (K : Kind). WorksBeside (remove_straddlers_of K) L (λ points roots. world_at k points roots corners volumes ends lengths outline log)
-    (λ points roots q. world_at q points roots corners volumes ends lengths outline log) (Done k)) (sym e) stays
+    (λ points roots q. world_at q points roots corners volumes ends lengths outline log) (Ok k)) (sym e) stays
   where
     stays : WorksBeside (remove_straddlers_of Nothing) L (λ points roots. world_at k points roots corners volumes ends lengths outline log)
-        (λ points roots q. world_at q points roots corners volumes ends lengths outline log) (Done k)
+        (λ points roots q. world_at q points roots corners volumes ends lengths outline log) (Ok k)
     stays = record { works = λ points roots. record { went = λ R X z. (z, W, X) } }

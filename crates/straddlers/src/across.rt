@@ -97,12 +97,10 @@ fn mark_edges(
     ensures { EdgesMarked (kind_is kind) n parent.now used.now ends.now mask.new result }
 {
     let mut count: usize = 0;
-    let mut i: usize = 0;
-    while i < n {
+    for i in 0..n {
         let m = mark(edge_crosses(kind, i, parent, used, ends));
         mask[i] = m;
         count += m;
-        i += 1;
     }
     count
 }
@@ -113,10 +111,8 @@ fn mark_sides(n: usize, parent: &[usize], used: &[usize], outline: &[usize], mas
     ensures { SidesMarked n parent.now used.now outline.now mask.new }
 {
     let c = outline.len() / mesh::SIDE_COLUMNS;
-    let mut i: usize = 0;
-    while i < n {
+    for i in 0..n {
         mask[i] = mark(apart(outline[i], outline[c + i], parent, used));
-        i += 1;
     }
 }
 
@@ -137,7 +133,7 @@ pub fn remove_straddlers(
     ensures { WorksBesideIn (remove_straddlers_of (kind_is kind)) room k corners volumes ends lengths outline log result }
 {
     if let Kind::Nothing = kind {
-        return Ran::Done(k);
+        return Ok(k);
     }
     let mut parent = [0usize; mesh::PARTICLES];
     let mut used = [0usize; mesh::PARTICLES];

@@ -29,6 +29,7 @@ fn any_triangle(x: usize, y: usize, t: usize, corners: &[usize], links: &[u16]) 
 {
     let rows = corners.len() / mesh::CORNER_COLUMNS;
     let mut at = links::first_at(x, links);
+    // A chain: each place tells the next, so there is no range to go over.
     while at > 0 {
         let i = at - 1;
         if columns::row_holds(y, i, mesh::CORNER_COLUMNS, rows, corners) {
@@ -55,6 +56,7 @@ fn any_strap(x: usize, y: usize, e: usize, ends: &[usize], table: &[u16]) -> boo
 {
     let rows = ends.len() / mesh::END_COLUMNS;
     let mut at = links::first_at(x, table);
+    // A chain: each place tells the next, so there is no range to go over.
     while at > 0 {
         let i = at - 1;
         if strap_holds(x, y, i, ends) {

@@ -88,13 +88,11 @@ fn mark_corners(m: usize, verts: &[usize], near: &mut [u8])
     requires { m ≤ length verts.now }
     ensures { NearMarked m verts.now near.new }
 {
-    let mut i: usize = 0;
-    while i < m {
+    for i in 0..m {
         let x = verts[i];
         if x < near.len() {
             near[x] = 1;
         }
-        i += 1;
     }
 }
 
@@ -201,6 +199,7 @@ fn list_edges_at(
     let rows = ends.len() / mesh::END_COLUMNS;
     let mut listed = r;
     let mut at = links::first_at(x, table);
+    // A chain: each place tells the next, so there is no range to go over.
     while at > 0 {
         let i = at - 1;
         listed = list_edge(
@@ -261,16 +260,13 @@ pub fn list_straddlers(
     };
     let mut walked = [0u8; mesh::PARTICLES];
     let mut listed: usize = 0;
-    let mut q: usize = 0;
-    while q < m {
+    for q in 0..m {
         if is_walked(verts[q], &mut walked) {
-            q += 1;
             continue;
         }
         listed = list_edges_at(
             verts[q], listed, of, t, e, verts, groups, corners, ends, links, table, &near, list,
         );
-        q += 1;
     }
     listed
 }

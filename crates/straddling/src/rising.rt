@@ -7,14 +7,12 @@ fn place_for(i: usize, r: usize, list: &[usize]) -> usize
     requires { r ≤ length list.now }
     ensures { PlaceFor i r list.now result }
 {
-    let mut at = r;
-    while at > 0 {
-        if list[at - 1] <= i {
-            return at;
+    for at in (0..r).rev() {
+        if list[at] <= i {
+            return at + 1;
         }
-        at -= 1;
     }
-    at
+    0
 }
 
 // Writes i at place `at`; those of the r numbers that stand from there on move by one place, the last of them first.
@@ -22,11 +20,7 @@ fn insert_at(i: usize, at: usize, r: usize, list: &mut [usize])
     requires { (at ≤ r) × (r < length list.old) }
     ensures { InsertedAt i at r list.old list.new }
 {
-    let mut q = r;
-    while q > at {
-        list[q] = list[q - 1];
-        q -= 1;
-    }
+    list.copy_within(at..r, at + 1);
     list[at] = i;
 }
 

@@ -26,8 +26,7 @@ use Rattle.mesh.specs.declared.Counts.{Counts}
 use Rattle.mesh.specs.declared.Rooms.{Rooms}
 use Rattle.mesh.proofs.Lists.{edges_length}
 use Rattle.work.specs.Working.{Ready, Went, Logged}
-use Rattle.work.specs.declared.Ran.{Ran}
-use Rattle.work.specs.declared.Ran.TheVariants.{Done}
+use Rattle.work.specs.Ran.{Ran}
 use Rattle.work.proofs.Placed.{ends_in}
 use Rattle.marks.specs.Marking.{blade_from}
 use Rattle.insert.specs.Shares.{Stands}
@@ -36,6 +35,7 @@ use Rattle.crossing.specs.Crossings.{crossed_in, CrossingsAre}
 use Rattle.crossing.specs.Crossed.{ran_of, StrapMarks, Crosses, CrossTold, CrossRoom, CrossingsIn}
 use Rattle.crossing.proofs.CrossedRuns.{entries_to, words_to, ready_to}
 use Rattle.model_laws.proofs.Inserted.{crossings_inside}
+use Rattle.std.specs.Prelude.{Ok}
 
 -- ---- nothing is marked
 
@@ -123,14 +123,14 @@ module _ (b0 b1 : Point) (L : Rooms) (k : Counts) (I : Lent) (points : List Floa
           subst (λ (cs : List Crossing). Went L (ran_of (fold (crossed f) (strapping R [] []) cs)) (λ q. world_at q points' roots' corners volumes ends' lengths' outline' log') r) found_are
           ((T.crosses corners volumes).went (strapping R [] []) w z)
 
-      pub all_marked : StrapMarks (strapping R [] []) bends snapped → (q : Counts) → r ≡ Done q → StrapMarks (fold (crossed f) (strapping R [] []) (crossings (blade_from b0 b1) R.mesh)) bends' snapped'
+      pub all_marked : StrapMarks (strapping R [] []) bends snapped → (q : Counts) → r ≡ Ok q → StrapMarks (fold (crossed f) (strapping R [] []) (crossings (blade_from b0 b1) R.mesh)) bends' snapped'
       all_marked A q e =
           subst (λ (cs : List Crossing). StrapMarks (fold (crossed f) (strapping R [] []) cs) bends' snapped') found_are ((T.crosses corners volumes).marks (strapping R [] []) w z A q e)
 
   -- behind them the blocks are ready for what comes next, and their log is one
   module _ (f : Float) (bends snapped : List ℕ) (points' : List Float) (roots' ends' : List ℕ) (lengths' : List Float) (outline' log' bends' snapped' : List ℕ) (r : Ran)
-      (T : CrossTold f (crossed_in m numbers ts) L k points roots ends lengths outline log bends snapped points' roots' ends' lengths' outline' log' bends' snapped' r) (G : Logged k.log log) (q : Counts) (e : r ≡ Done q) where
-    done : Crosses f (crossed_in m numbers ts) L (world_at k points roots corners volumes ends lengths outline log) (λ x. world_at x points' roots' corners volumes ends' lengths' outline' log') bends snapped bends' snapped' (Done q)
+      (T : CrossTold f (crossed_in m numbers ts) L k points roots ends lengths outline log bends snapped points' roots' ends' lengths' outline' log' bends' snapped' r) (G : Logged k.log log) (q : Counts) (e : r ≡ Ok q) where
+    done : Crosses f (crossed_in m numbers ts) L (world_at k points roots corners volumes ends lengths outline log) (λ x. world_at x points' roots' corners volumes ends' lengths' outline' log') bends snapped bends' snapped' (Ok q)
     done =
         subst
         (λ (x : Ran).

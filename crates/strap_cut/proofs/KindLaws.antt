@@ -12,8 +12,8 @@ use Rattle.elements.specs.Table.{kind_is}
 use Rattle.elements.specs.declared.Kind.{Kind}
 use Rattle.elements.specs.declared.Kind.TheVariants.{Triangles, Straps, Nothing}
 use Rattle.work.specs.Working.{Within, Works}
-use Rattle.work.specs.declared.Ran.{Ran}
-use Rattle.work.specs.declared.Ran.TheVariants.{Done}
+use Rattle.work.specs.Ran.{Ran}
+use Rattle.std.specs.Prelude.{Ok}
 
 module _ (L : Rooms) (rule : Rule) (b0 b1 : Point) (f : Float) (kind : Kind) where
   -- a worker that cuts a mesh of kind K
@@ -29,6 +29,6 @@ module _ (L : Rooms) (rule : Rule) (b0 b1 : Point) (f : Float) (kind : Kind) whe
   cut_straps {W} {at} {r} e F = subst (Cuts W at r) (sym e) (record { went = F.went })
 
   -- nothing is done to a mesh of neither kind
-  pub cut_nothing : (at : Counts → World) (k : Counts) → kind ≡ Nothing → Within k L → Cuts (at k) at (Done k) kind
+  pub cut_nothing : (at : Counts → World) (k : Counts) → kind ≡ Nothing → Within k L → Cuts (at k) at (Ok k) kind
   unfolding cut_along
-  cut_nothing at k e w = subst (Cuts (at k) at (Done k)) (sym e) (record { went = λ R h z. (z, w, h) })
+  cut_nothing at k e w = subst (Cuts (at k) at (Ok k)) (sym e) (record { went = λ R h z. (z, w, h) })

@@ -24,8 +24,7 @@ use Rattle.mesh.specs.declared.Counts.{Counts}
 use Rattle.mesh.specs.declared.Rooms.{Rooms}
 use Rattle.work.specs.Working.{Within, Roomed, Ready, Went, Works, Logged}
 use Rattle.work.specs.Removal.{marked, marked_of}
-use Rattle.work.specs.declared.Ran.{Ran}
-use Rattle.work.specs.declared.Ran.TheVariants.{Refused, Done}
+use Rattle.work.specs.Ran.{Ran}
 use Rattle.work.proofs.Placed.{particles_count, ends_in}
 use Rattle.split.proofs.StepLaws.{world_mesh}
 use Rattle.cut.specs.Running.{chosen, Chosen}
@@ -33,6 +32,9 @@ use Rattle.cut.proofs.RunLaws.{chosen_rising}
 use Rattle.crossing.specs.Crossed.{ran_of, bends_of, StrapMarks}
 use Rattle.crossing.specs.Unbent.{UnbentRoom, MarksOf, UnbentTold}
 use Rattle.strap_cut.specs.Segments.{MarksLent, AfterTold}
+use Rattle.std.specs.Prelude.{Ok, Err}
+use Rattle.mesh.specs.declared.refusals.Refusal.{Refusal}
+use Rattle.mesh.specs.Refused.{number_of}
 
 -- ---- the marked places as a list
 
@@ -90,8 +92,8 @@ module _ (L : Rooms) (k : Counts) (points : List Float) (roots corners : List �
         log = R.log;
       }
 
-  module _ (r : Ran) (left : Counts) (U : UnbentTold L k bends ends lengths outline log ends' lengths' outline' log' r) (d : r ≡ Done left) where
-    done : UnbentTold L k bends ends lengths outline log ends' lengths' outline' log' (Done left)
+  module _ (r : Ran) (left : Counts) (U : UnbentTold L k bends ends lengths outline log ends' lengths' outline' log' r) (d : r ≡ Ok left) where
+    done : UnbentTold L k bends ends lengths outline log ends' lengths' outline' log' (Ok left)
     done = subst (UnbentTold L k bends ends lengths outline log ends' lengths' outline' log') d U
 
     abbrev gone : Run
@@ -147,15 +149,15 @@ module _ (B : Blade) (L : Rooms) (k : Counts) (points : List Float) (roots corne
   abbrev Told : Ran → Type 0
   Told r = UnbentTold L k bends ends lengths outline log ends' lengths' outline' log' r
 
-  refused_at : (c : ℕ) (at : Counts → World) → Told (Refused c) → (S : Strapping) → W ≡ world_of (ran_of S).mesh (ran_of S).log → first_fault (as_rooms L) (ran_of S).needs ≡ 0 → StrapMarks S bends snapped
-      → ((j : ℕ) → stands j (bends_of S) ≡ true → j < k.edges) → Went L (after_crossings B S) at (Refused c)
+  refused_at : (c : Refusal) (at : Counts → World) → Told (Err c) → (S : Strapping) → W ≡ world_of (ran_of S).mesh (ran_of S).log → first_fault (as_rooms L) (ran_of S).needs ≡ 0 → StrapMarks S bends snapped
+      → ((j : ℕ) → stands j (bends_of S) ≡ true → j < k.edges) → Went L (after_crossings B S) at (Err c)
   unfolding after_crossings
   refused_at c at U (strapping R ms ss) X z M h =
       let q = (U.works ms points roots corners volumes (marks_of (strapping R ms ss) bends snapped k.edges M h)).went R X z in
-      stays c (unbent ms R) (fold (split_snapped_of B) (unbent ms R) (rising (length R.mesh.particles) ss)) (onward_fold (split_snapped_of B) (snapped_onward B) (unbent ms R) (rising (length R.mesh.particles) ss)) q
+      stays (number_of c) (unbent ms R) (fold (split_snapped_of B) (unbent ms R) (rising (length R.mesh.particles) ss)) (onward_fold (split_snapped_of B) (snapped_onward B) (unbent ms R) (rising (length R.mesh.particles) ss)) q
 
   -- the bend edges lack room in the log
-  pub after_refused : (r : Ran) (c : ℕ) (at : Counts → World) → Told r → r ≡ Refused c → AfterTold B L k.edges W at bends snapped (Refused c)
+  pub after_refused : (r : Ran) (c : Refusal) (at : Counts → World) → Told r → r ≡ Err c → AfterTold B L k.edges W at bends snapped (Err c)
   after_refused r c at U d = record { went = refused_at c at (subst Told d U) }
 
   -- as many particles as the counts say
@@ -164,7 +166,7 @@ module _ (B : Blade) (L : Rooms) (k : Counts) (points : List Float) (roots corne
       sym (particles_count k points roots corners volumes ends lengths outline)
       ∙ ap (λ (M : Mesh). length M.particles) (sym (world_mesh k points roots corners volumes ends lengths outline log) ∙ ap (λ (X : World). X.mesh) X)
 
-  done_at : (left : Counts) (at : Counts → World) (r : Ran) → Told (Done left)
+  done_at : (left : Counts) (at : Counts → World) (r : Ran) → Told (Ok left)
       → Works (λ (R : Run). fold (split_snapped_of B) R (chosen k.particles snapped)) L (world_at left points roots corners volumes ends' lengths' outline' log') at r → k.particles ≤ length snapped
       → (S : Strapping) → W ≡ world_of (ran_of S).mesh (ran_of S).log → first_fault (as_rooms L) (ran_of S).needs ≡ 0 → StrapMarks S bends snapped
       → ((j : ℕ) → stands j (bends_of S) ≡ true → j < k.edges) → Went L (after_crossings B S) at r
@@ -175,7 +177,7 @@ module _ (B : Blade) (L : Rooms) (k : Counts) (points : List Float) (roots corne
       subst (λ (l : List ℕ). Went L (fold (split_snapped_of B) (unbent ms R) l) at r) e (F.went (unbent ms R) q.2 q.0)
 
   -- the bend edges are gone, and the ends were split
-  pub after_done : (r₁ : Ran) (left : Counts) (at : Counts → World) (r : Ran) → Told r₁ → r₁ ≡ Done left
+  pub after_done : (r₁ : Ran) (left : Counts) (at : Counts → World) (r : Ran) → Told r₁ → r₁ ≡ Ok left
       → Works (λ (R : Run). fold (split_snapped_of B) R (chosen k.particles snapped)) L (world_at left points roots corners volumes ends' lengths' outline' log') at r → k.particles ≤ length snapped
       → AfterTold B L k.edges W at bends snapped r
   after_done r₁ left at r U d F long = record { went = done_at left at r (subst Told d U) F long }

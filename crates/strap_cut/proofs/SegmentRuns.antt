@@ -19,8 +19,7 @@ use Rattle.mesh.specs.Filled.{lent}
 use Rattle.mesh.specs.declared.Counts.{Counts}
 use Rattle.mesh.specs.declared.Rooms.{Rooms}
 use Rattle.work.specs.Working.{Within, Ready, Went, Works, Logged}
-use Rattle.work.specs.declared.Ran.{Ran}
-use Rattle.work.specs.declared.Ran.TheVariants.{Refused, Done}
+use Rattle.work.specs.Ran.{Ran}
 use Rattle.work.proofs.Placed.{edges_count}
 use Rattle.split.proofs.StepLaws.{world_mesh}
 use Rattle.marks.specs.Marking.{blade_from}
@@ -28,6 +27,9 @@ use Rattle.crossing.specs.Crossed.{ran_of}
 use Rattle.strap_cut.specs.Segments.{AfterTold, BladeCrossed}
 use Rattle.strap_cut.proofs.CrossedStart.{marks_none, all_went, all_marked, all_ready, all_logged}
 use Rattle.crossing.proofs.BendNumbers.{marked_there}
+use Rattle.std.specs.Prelude.{Ok, Err}
+use Rattle.mesh.specs.declared.refusals.Refusal.{Refusal}
+use Rattle.mesh.specs.Refused.{number_of}
 
 -- what is left of a cut only goes on
 after_onward : (B : Blade) (S : Strapping) → Onward (ran_of S) (after_crossings B S)
@@ -57,17 +59,17 @@ module _ (b0 b1 : Point) (f : Float) (L : Rooms) (k : Counts) (points : List Flo
       all_went b0 b1 L k _ points roots corners volumes ends lengths outline log Y refl T.numbers T.ts T.many T.found R w f bends snapped points' roots' ends' lengths' outline' log' bends' snapped' r T.told z
 
   -- the crossings lack room
-  pub segments_refused : (c : ℕ) → r ≡ Refused c → Works (cut_segments_of (blade_from b0 b1) f) L W behind r
+  pub segments_refused : (c : Refusal) → r ≡ Err c → Works (cut_segments_of (blade_from b0 b1) f) L W behind r
   unfolding cut_segments_of
   segments_refused c e =
       record {
         went =
             λ R w z.
             subst (Went L (after_crossings (blade_from b0 b1) (crossed_all R)) behind) (sym e)
-            (after_lacks (blade_from b0 b1) L (crossed_all R) c (subst (Went L (ran_of (crossed_all R)) behind) e (went R w z)));
+            (after_lacks (blade_from b0 b1) L (crossed_all R) (number_of c) (subst (Went L (ran_of (crossed_all R)) behind) e (went R w z)));
       }
 
-  module _ (q : Counts) (e : r ≡ Done q) where
+  module _ (q : Counts) (e : r ≡ Ok q) where
     went_done : (R : Run) → W ≡ world_of R.mesh R.log → first_fault (as_rooms L) R.needs ≡ 0
         → (first_fault (as_rooms L) (ran_of (crossed_all R)).needs ≡ 0) × Within q L × (behind q ≡ world_of (ran_of (crossed_all R)).mesh (ran_of (crossed_all R)).log)
     went_done R w z = subst (Went L (ran_of (crossed_all R)) behind) e (went R w z)

@@ -9,7 +9,7 @@ use Rattle.mesh.specs.Given.{as_rooms}
 use Rattle.mesh.specs.declared.Counts.{Counts}
 use Rattle.mesh.specs.declared.Rooms.{Rooms}
 use Rattle.work.specs.Working.{Went}
-use Rattle.work.specs.declared.Ran.{Ran}
+use Rattle.work.specs.Ran.{Ran}
 use Rattle.crossing.specs.Crossings.{crossed_in, CrossingsAre}
 use Rattle.crossing.specs.Crossed.{ran_of, bends_of, StrapMarks, CrossTold}
 use Rattle.mesh.specs.Blocks.{LentNumbers, LentIndices}

@@ -106,6 +106,6 @@ pub fn run(
         Kind::Straps => cut_straps(
             b0, b1, f, k, room, points, roots, corners, volumes, ends, lengths, outline, log, list,
         ),
-        Kind::Nothing => Ran::Done(k),
+        Kind::Nothing => Ok(k),
     }
 }

@@ -87,7 +87,7 @@ fn split_snapped(
         volumes ends lengths outline log result }
 {
     if columns::next_marked(marks, 0, p) == p {
-        return Ran::Done(k);
+        return Ok(k);
     }
     let mut links = [0u16; links::PLACES];
     links::link_mesh(
@@ -143,14 +143,11 @@ pub fn after_crossings(
         (λ q. world_behind q points roots corners volumes ends lengths outline log) bends.old snapped.now result }
 {
     let p = k.particles;
-    let ran = crossing::unbent::remove_bends(bends, k, room, ends, lengths, outline, log);
-    match ran {
-        Ran::Refused(c) => Ran::Refused(c),
-        Ran::Done(left) => split_snapped(
-            b0, b1, p, snapped, left, room, points, roots, corners, volumes, ends, lengths,
-            outline, log, bends,
-        ),
-    }
+    let left = crossing::unbent::remove_bends(bends, k, room, ends, lengths, outline, log)?;
+    split_snapped(
+        b0, b1, p, snapped, left, room, points, roots, corners, volumes, ends, lengths, outline,
+        log, bends,
+    )
 }
 
 // Inserts at the crossings or marks their near ends; then removes the bend edges over the insertions and splits the marked ends. The marks are of those ends, the bends of those edges.
@@ -175,14 +172,11 @@ pub fn cut_segments(
         × (1024 ≤ length marks.old) × ListIn bends }
     ensures { WorksIn (cut_segments_of (blade_from b0 b1) f) room k points roots corners volumes ends lengths outline log result }
 {
-    columns::clear_usize(0, bends);
-    columns::clear_usize(0, marks);
-    let ran = cross_blade(
+    columns::clear(0, bends);
+    columns::clear(0, marks);
+    let crossed = cross_blade(
         b0, b1, f, k, room, points, roots, ends, lengths, outline, log, bends, marks,
-    );
-    let Ran::Done(crossed) = ran else {
-        return ran;
-    };
+    )?;
     after_crossings(
         b0, b1, marks, crossed, room, points, roots, corners, volumes, ends, lengths, outline, log,
         bends,

@@ -11,6 +11,7 @@ pub fn read_full<R: Read>(reader: &mut R, bytes: &mut [u8]) -> io::Result<usize>
     ensures { ReadsAtMost result bytes.new }
 {
     let mut done = 0;
+    // A read tells how many bytes came.
     while done < bytes.len() {
         let n = reader.read(&mut bytes[done..])?;
         if n == 0 {

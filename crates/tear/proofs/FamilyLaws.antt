@@ -25,8 +25,7 @@ use Rattle.mesh.specs.At.{edge_row, edges_at}
 use Rattle.mesh.specs.Log.{Words, words_of, entry_row, log_at}
 use Rattle.elements.specs.Table.{HeldBoth}
 use Rattle.elements.proofs.Held.{held_is}
-use Rattle.tear.specs.declared.families.Pair.{Pair}
-use Rattle.tear.specs.declared.families.Pair.TheVariants.{None, Ends}
+use Rattle.std.specs.Prelude.{Option as Opt, None, Some}
 use Rattle.tear.specs.Families.{split_by_of, splits_by, source_in, FamilyFound, joins_by, JoinTold, meet, MeshIn, MeetTold, FirstMet, pair_is, PairMet, FamiliesMet}
 
 -- ---- families
@@ -221,7 +220,7 @@ module _ (b : Bool) (xs ys : List ℕ) (k n : ℕ) (verts : List ℕ) (e : ℕ) 
               ∙ P.rest K M lengths I;
         }
 
-    pub pairing_found : i < length xs → (j : ℕ) → FirstMet b (get_or xs i 0) ys k n verts e ends j → j < length ys → PairMet b xs ys k n verts e ends (Ends (get_or xs i 0) (get_or ys j 0))
+    pub pairing_found : i < length xs → (j : ℕ) → FirstMet b (get_or xs i 0) ys k n verts e ends j → j < length ys → PairMet b xs ys k n verts e ends (Some (get_or xs i 0, get_or ys j 0))
     pairing_found h j F l =
         record {
           is = λ K M lengths I.
@@ -260,7 +259,7 @@ source_none log i l n = rw (ne_eqb (get_or log (6 * i) 0) 1 n)
 -- ---- pairs of families
 
 module _ (a b l : ℕ) (log : List ℕ) (k n : ℕ) (verts : List ℕ) (e : ℕ) (ends : List ℕ) (p : ℕ) (F : List ℕ) (q : ℕ) (G : List ℕ) (f : FamilyFound a l log p F) (g : FamilyFound b l log q G) where
-  pub families_met : (i : Bool) (r : Pair) → PairMet i (take p F) (take q G) k n verts e ends r → FamiliesMet i a b l log k n verts e ends r
+  pub families_met : (i : Bool) (r : Opt (ℕ × ℕ)) → PairMet i (take p F) (take q G) k n verts e ends r → FamiliesMet i a b l log k n verts e ends r
   families_met i r P =
       record {
         is = λ K R lengths w I.

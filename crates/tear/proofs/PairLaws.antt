@@ -31,8 +31,7 @@ use Rattle.split.proofs.Fitted.{all_few}
 use Rattle.work.specs.Working.{Logged}
 use Rattle.tear.specs.Families.{MeshIn, meet, pair_is, CurrentRoom, FamiliesMet}
 use Rattle.tear.specs.Pairs.{PairReady, PairBelow, PairMetNow, PairNow}
-use Rattle.tear.specs.declared.families.Pair.{Pair}
-use Rattle.tear.specs.declared.families.Pair.TheVariants.{None, Ends}
+use Rattle.std.specs.Prelude.{Option as Opt, None, Some}
 use Rattle.tear.proofs.TriedLaws.{elements_here}
 
 -- ---- its particles are there
@@ -104,9 +103,9 @@ current_below K R ab X =
     (found_over (λ (xy : ℕ × ℕ). p xy ≡ true) (Both n) (λ xy h. held_below K R.mesh xy X h) (find p ps) (find_passes p ps))
     (found_over (λ (xy : ℕ × ℕ). q xy ≡ true) (Both n) (λ xy h. joined_below R.mesh xy X h) (find q ps) (find_passes q ps))
 
-pair_below : (n : ℕ) (r : Pair) → Found (Both n) (pair_is r) → PairBelow n r
+pair_below : (n : ℕ) (r : Opt (ℕ × ℕ)) → Found (Both n) (pair_is r) → PairBelow n r
 pair_below n None h = tt
-pair_below n (Ends x y) h = h
+pair_below n (Some (x, y)) h = h
 
 -- ---- over the blocks
 
@@ -127,7 +126,7 @@ module _ (K : Kind) (k : Counts) (points : List Float) (roots corners : List ℕ
   unfolding mesh_at
   mesh_in = record { cornered = elements_here K k points roots corners volumes ends lengths outline n per numbers verts measures T e; edges_are = refl }
 
-  pub met_told : (i : Bool) (a b : ℕ) (r : Pair) → FamiliesMet i a b k.log log per n verts k.edges ends r → PairMetNow i K a b (world_at k points roots corners volumes ends lengths outline log) r
+  pub met_told : (i : Bool) (a b : ℕ) (r : Opt (ℕ × ℕ)) → FamiliesMet i a b k.log log per n verts k.edges ends r → PairMetNow i K a b (world_at k points roots corners volumes ends lengths outline log) r
   unfolding world_at
   met_told i a b r C =
       record {
@@ -140,7 +139,7 @@ module _ (K : Kind) (k : Counts) (points : List Float) (roots corners : List ℕ
   abbrev Now : World
   Now = world_at k points roots corners volumes ends lengths outline log
 
-  pair_told : (r : Pair) → ((R : Run) → Now ≡ world_of R.mesh R.log → pair_is r ≡ current_pair K R (a, b)) → PairNow K a b k.particles Now r
+  pair_told : (r : Opt (ℕ × ℕ)) → ((R : Run) → Now ≡ world_of R.mesh R.log → pair_is r ≡ current_pair K R (a, b)) → PairNow K a b k.particles Now r
   unfolding world_at
   pair_told r told =
       let M = mesh_at k points roots corners volumes ends lengths outline in
@@ -162,15 +161,15 @@ module _ (K : Kind) (k : Counts) (points : List Float) (roots corners : List ℕ
   unfolding current_pair current_of pairs_of
   first_of_lem R = refl
 
-  pub told_held : (r : Pair) (x y : ℕ) → r ≡ Ends x y → PairMetNow true K a b Now r → PairNow K a b k.particles Now (Ends x y)
+  pub told_held : (r : Opt (ℕ × ℕ)) (x y : ℕ) → r ≡ Some (x, y) → PairMetNow true K a b Now r → PairNow K a b k.particles Now (Some (x, y))
   unfolding pairs_of
   told_held r x y s C =
-      pair_told (Ends x y)
+      pair_told (Some (x, y))
       (λ R w.
       let h : find (meet true K R.mesh) (pairs_of R) ≡ some (x, y) = sym (C.is R w) ∙ ap pair_is s in
       sym (ap (λ (o : Option (ℕ × ℕ)). first_of o (find (meet false K R.mesh) (pairs_of R))) h) ∙ first_of_lem R)
 
-  pub told_joined : (r t : Pair) → r ≡ None → PairMetNow true K a b Now r → PairMetNow false K a b Now t → PairNow K a b k.particles Now t
+  pub told_joined : (r t : Opt (ℕ × ℕ)) → r ≡ None → PairMetNow true K a b Now r → PairMetNow false K a b Now t → PairNow K a b k.particles Now t
   unfolding pairs_of
   told_joined r t s C D =
       pair_told t

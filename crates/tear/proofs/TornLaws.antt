@@ -34,9 +34,10 @@ use Rattle.work.proofs.Placed.{particles_count}
 use Rattle.tear.specs.Torn.{TearRoom, TearDone, TearTold, TearAsked}
 use Rattle.split.specs.Steps.{logged_of, settled_world, need_of, split_world, Stepped}
 use Rattle.work.proofs.Runs.{need_behind, went_step, works_known}
-use Rattle.work.specs.declared.Ran.{Ran}
-use Rattle.work.specs.declared.Ran.TheVariants.{Refused, Done}
+use Rattle.work.specs.Ran.{Ran}
 use Rattle.tear.specs.Tears.{bridges_by, slack_by, Slackened, made_by, Damaged}
+use Rattle.std.specs.Prelude.{Ok, Err}
+use Rattle.mesh.specs.declared.refusals.Refusal.{Refusal}
 
 -- ---- the mesh behind it
 
@@ -103,16 +104,16 @@ log_torn K O a b R =
 -- ---- the step of the run
 
 module _ (K : Kind) (O : Opening) (a b : ℕ) (xy : ℕ × ℕ) (L : Rooms) (W : World) (at at' : Counts → World) where
-  pub torn_refused : (c : ℕ) → Stepped K O L 1 W at (Refused c) → Works (split_made (opened a b ∷ []) (torn O xy) K O) L W at' (Refused c)
+  pub torn_refused : (c : Refusal) → Stepped K O L 1 W at (Err c) → Works (split_made (opened a b ∷ []) (torn O xy) K O) L W at' (Err c)
   unfolding split_made
   torn_refused c S =
       record {
         went = λ R e z.
-            went_step L R _ _ _ _ at' (Refused c) z (ap (too_small (as_rooms L)) (need_torn K O a b xy R ∙ ap (need_of K O 1) (sym e)) ∙ S.0, S.1);
+            went_step L R _ _ _ _ at' (Err c) z (ap (too_small (as_rooms L)) (need_torn K O a b xy R ∙ ap (need_of K O 1) (sym e)) ∙ S.0, S.1);
       }
 
-  pub torn_done : (q q' : Counts) → Stepped K O L 1 W at (Done q) → Within q' L → (at' q').mesh ≡ torn O xy (at q).mesh → (at' q').log ≡ (at q).log ++ (words_of (opened a b) ∷ [])
-      → Works (split_made (opened a b ∷ []) (torn O xy) K O) L W at' (Done q')
+  pub torn_done : (q q' : Counts) → Stepped K O L 1 W at (Ok q) → Within q' L → (at' q').mesh ≡ torn O xy (at q).mesh → (at' q').log ≡ (at q).log ++ (words_of (opened a b) ∷ [])
+      → Works (split_made (opened a b ∷ []) (torn O xy) K O) L W at' (Ok q')
   unfolding split_made split_world settled_world
   torn_done q q' S H m l =
       record {
@@ -121,17 +122,17 @@ module _ (K : Kind) (O : Opening) (a b : ℕ) (xy : ℕ × ℕ) (L : Rooms) (W :
             let here : at q ≡ split_world K O (world_of R.mesh R.log) = S.3 ∙ ap (split_world K O) e in
             let mesh : (at' q').mesh ≡ torn O xy (settled K O A) = m ∙ ap (λ (X : World). torn O xy X.mesh) here in
             let log : (at' q').log ≡ map words_of (R.log ++ logged_more K O a b A) = l ∙ ap (λ (X : World). X.log ++ (words_of (opened a b) ∷ [])) here ∙ log_torn K O a b R in
-            went_step L R _ _ _ _ at' (Done q') z
+            went_step L R _ _ _ _ at' (Ok q') z
             (ap (too_small (as_rooms L)) (need_torn K O a b xy R ∙ ap (need_of K O 1) (sym e)) ∙ S.0, H, world_path mesh log);
       }
 
   -- how many particles there are behind it
-  pub split_count : (q : Counts) → Stepped K O L 1 W at (Done q) → length (at q).mesh.particles ≡ length W.mesh.particles + (O.count - 1)
+  pub split_count : (q : Counts) → Stepped K O L 1 W at (Ok q) → length (at q).mesh.particles ≡ length W.mesh.particles + (O.count - 1)
   unfolding split_world settled_world settled at_longest
   split_count q S = ap (λ (X : World). length X.mesh.particles) S.3 ∙ copied_length O W.mesh.particles
 
 -- what is done behind it keeps the numbers of triangles and of edges, so the tables stay as they were left
-pub linked_told : (K : Kind) (corners ends outline links : List ℕ) (s : Ran) (q : Counts) → s ≡ Done (record { particles = q.particles; triangles = q.triangles; edges = q.edges; boundary = q.boundary; log = q.log + 1 })
+pub linked_told : (K : Kind) (corners ends outline links : List ℕ) (s : Ran) (q : Counts) → s ≡ Ok (record { particles = q.particles; triangles = q.triangles; edges = q.edges; boundary = q.boundary; log = q.log + 1 })
     → MeshLinked K q.triangles q.edges q.boundary corners ends outline links → LinkedAfter K corners ends outline links s
 linked_told K corners ends outline links s q f X = subst (LinkedAfter K corners ends outline links) (sym f) X
 
@@ -153,13 +154,13 @@ module _ (K : Kind) (L : Rooms) (k : Counts) (points : List Float) (roots corner
   behind q = world_at q points' roots' corners' volumes ends' lengths' outline' log'
 
   -- the step that listed edges, where the blocks were closed up behind it
-  pub closed_step : (ends₁ : List ℕ) (lengths₁ : List Float) (list₁ : List ℕ) (r : Ran) (q : Counts) → r ≡ Done q → edges_at q.edges ends' lengths' ≡ edges_parted q.edges ends₁ lengths₁ list₁
-      → Stepped K the_opening L 1 entering (λ p. world_parted p points' roots' corners' volumes ends₁ lengths₁ outline' log' list₁) r → Stepped K the_opening L 1 entering behind (Done q)
+  pub closed_step : (ends₁ : List ℕ) (lengths₁ : List Float) (list₁ : List ℕ) (r : Ran) (q : Counts) → r ≡ Ok q → edges_at q.edges ends' lengths' ≡ edges_parted q.edges ends₁ lengths₁ list₁
+      → Stepped K the_opening L 1 entering (λ p. world_parted p points' roots' corners' volumes ends₁ lengths₁ outline' log' list₁) r → Stepped K the_opening L 1 entering behind (Ok q)
   closed_step ends₁ lengths₁ list₁ r q e c S =
       let T = subst (Stepped K the_opening L 1 entering (λ p. world_parted p points' roots' corners' volumes ends₁ lengths₁ outline' log' list₁)) e S in
       (T.0, T.1, T.2, world_closed q points' roots' corners' volumes ends₁ lengths₁ ends' lengths' outline' log' list₁ c ∙ T.3)
 
-  module _ (q : Counts) (S : Stepped K the_opening L 1 entering behind (Done q)) where
+  module _ (q : Counts) (S : Stepped K the_opening L 1 entering behind (Ok q)) where
     -- the copies stand behind the particles
     copies_count : q.particles ≡ k.particles + (count - 1)
     unfolding world_at
@@ -190,7 +191,7 @@ module _ (K : Kind) (L : Rooms) (k : Counts) (points : List Float) (roots corner
     -- the torn edge is noted, its bridges slack, its particles damaged
     tear_works : (roots'' : List ℕ) (lengths'' : List Float) (log'' : List ℕ) → TearDone v k.particles count w x y a b q.edges q.log roots' roots'' ends' lengths' lengths'' log' log'' → length roots' ≡ length roots
         → Works (split_made (opened a b ∷ []) (torn the_opening (x, y)) K the_opening) L entering (λ p. world_at p points' roots'' corners' volumes ends' lengths'' outline' log'')
-        (Done (record { particles = q.particles; triangles = q.triangles; edges = q.edges; boundary = q.boundary; log = q.log + 1 }))
+        (Ok (record { particles = q.particles; triangles = q.triangles; edges = q.edges; boundary = q.boundary; log = q.log + 1 }))
     unfolding world_at mesh_at
     tear_works roots'' lengths'' log'' D er =
         let H = S.1 in
@@ -206,5 +207,5 @@ module _ (K : Kind) (L : Rooms) (k : Counts) (points : List Float) (roots corner
         → Works (split_made (opened a b ∷ []) (torn the_opening (x, y)) K the_opening) L entering (λ p. world_at p points' roots'' corners' volumes ends' lengths'' outline' log'') s
     tear_told roots'' lengths'' log'' s D er = works_known _ s (sym D.counts) (tear_works roots'' lengths'' log'' D.done er)
 
-  pub tear_refused : (at : Counts → World) (r : Ran) (c : ℕ) → Stepped K the_opening L 1 entering at r → r ≡ Refused c → Works (split_made (opened a b ∷ []) (torn the_opening (x, y)) K the_opening) L entering behind r
-  tear_refused at r c R e = works_known (Refused c) r (sym e) (torn_refused K the_opening a b (x, y) L entering at behind c (subst (Stepped K the_opening L 1 entering at) e R))
+  pub tear_refused : (at : Counts → World) (r : Ran) (c : Refusal) → Stepped K the_opening L 1 entering at r → r ≡ Err c → Works (split_made (opened a b ∷ []) (torn the_opening (x, y)) K the_opening) L entering behind r
+  tear_refused at r c R e = works_known (Err c) r (sym e) (torn_refused K the_opening a b (x, y) L entering at behind c (subst (Stepped K the_opening L 1 entering at) e R))

@@ -14,7 +14,8 @@ use Rattle.lists.specs.Lists.{pick, stands, sift, fold, tab}
 use Rattle.lists.proofs.Stores.{stored, tab_at}
 use Rattle.lists.proofs.Steps.{fold_drop}
 use Rattle.lists.proofs.Sifts.{take_tab, tab_ext, map_tab, tab_of}
-use Rattle.float.specs.declared.order.Order.{Order}
+use Rattle.std.specs.Prelude.{Option}
+use Rattle.std.specs.declared.cmp.Ordering.{Ordering}
 use Rattle.float.specs.Order.{total_cmp_of}
 use Rattle.float.specs.Numbers.{plus, over, zero32, count32}
 use Rattle.blade.specs.declared.Point.{Point}
@@ -313,5 +314,5 @@ pub two_pinned : (v : ℕ) (sides : List ℕ) (points : List Float) → ne (get_
 unfolding two_by cell
 two_pinned v sides points e = ap (λ (b : Bool). b && (stands 0 sides && stands 1 sides)) (sym e)
 
-pub first_told : (o k : Order) (b r : Bool) (p q : Float) → o ≡ total_cmp_of p q → o ≡ k → r ≡ ahead k b → r ≡ ahead (total_cmp_of p q) b
-first_told o k b r p q e s t = t ∙ ap (λ (z : Order). ahead z b) (sym s ∙ e)
+pub first_told : (o k : Option Ordering) (b r : Bool) (p q : Float) → o ≡ total_cmp_of p q → o ≡ k → r ≡ ahead k b → r ≡ ahead (total_cmp_of p q) b
+first_told o k b r p q e s t = t ∙ ap (λ (z : Option Ordering). ahead z b) (sym s ∙ e)

@@ -1,5 +1,5 @@
 -- Families read off the log, and the pair that stands for a torn edge. Only contracts between workers need this file. Definitions only.
-use Rattle.std.specs.Prelude.{ℕ, ◌+◌, ◌*◌, ◌/◌, ◌<◌, ◌≤◌, ◌≡◌, Bool, true, false, ◌&&◌, ◌||◌, List, [], ◌∷◌, map, length, get_or, take, eqb, Float}
+use Rattle.std.specs.Prelude.{ℕ, ◌+◌, ◌*◌, ◌/◌, ◌<◌, ◌≤◌, ◌≡◌, Bool, true, false, ◌&&◌, ◌||◌, List, [], ◌∷◌, map, length, get_or, take, eqb, Float, Option as Opt, None, Some}
 use Rattle.std.proofs.Math.Option.{Option, none, some}
 use Rattle.lists.specs.Lists.{pick, stands, any, each, find}
 use Rattle.model.specs.Mesh.{Mesh}
@@ -10,8 +10,6 @@ use Rattle.mesh.specs.At.{edges_at}
 use Rattle.mesh.specs.Log.{Words, words_of, log_at}
 use Rattle.mesh.specs.Widths.{end_columns, entry_words}
 use Rattle.elements.specs.Table.{Cornered}
-use Rattle.tear.specs.declared.families.Pair.{Pair}
-use Rattle.tear.specs.declared.families.Pair.TheVariants.{None, Ends}
 
 -- ---- families
 
@@ -72,12 +70,12 @@ pub record FirstMet (in_element : Bool) (x : ℕ) (ys : List ℕ) (k n : ℕ) (v
   pub here : (K : Kind) (M : Mesh) (lengths : List Float) → MeshIn K M k n verts e ends lengths → r < length ys → meet in_element K M (x, get_or ys r 0) ≡ true
 
 -- a pair of the program as the definitions have it
-abbrev pub pair_is : Pair → Option (ℕ × ℕ)
+abbrev pub pair_is : Opt (ℕ × ℕ) → Option (ℕ × ℕ)
 pair_is None = none
-pair_is (Ends x y) = some (x, y)
+pair_is (Some (x, y)) = some (x, y)
 
 -- the first pair of the two lists that meets
-pub record PairMet (in_element : Bool) (xs ys : List ℕ) (k n : ℕ) (verts : List ℕ) (e : ℕ) (ends : List ℕ) (r : Pair) : Type 0 where
+pub record PairMet (in_element : Bool) (xs ys : List ℕ) (k n : ℕ) (verts : List ℕ) (e : ℕ) (ends : List ℕ) (r : Opt (ℕ × ℕ)) : Type 0 where
   pub is : (K : Kind) (M : Mesh) (lengths : List Float) → MeshIn K M k n verts e ends lengths → pair_is r ≡ find (meet in_element K M) (cross_pairs xs ys)
 
 -- what the current pair asks
@@ -87,7 +85,7 @@ pub record CurrentRoom (l lg k n lk e le : ℕ) : Type 0 where
   pub meet : MeetRoom k n lk e le
 
 -- r is the first pair of the families of a and b that meets, in an element or at an edge, in whatever run has this log and this mesh
-pub record FamiliesMet (in_element : Bool) (a b l : ℕ) (log : List ℕ) (k n : ℕ) (verts : List ℕ) (e : ℕ) (ends : List ℕ) (r : Pair) : Type 0 where
+pub record FamiliesMet (in_element : Bool) (a b l : ℕ) (log : List ℕ) (k n : ℕ) (verts : List ℕ) (e : ℕ) (ends : List ℕ) (r : Opt (ℕ × ℕ)) : Type 0 where
   pub is :
       (K : Kind) (R : Run) (lengths : List Float) → log_at l log ≡ map words_of R.log → MeshIn K R.mesh k n verts e ends lengths
       → pair_is r ≡ find (meet in_element K R.mesh) (cross_pairs (family (splits_of R.log) a) (family (splits_of R.log) b))

@@ -1,5 +1,5 @@
 -- The pair that stands for a torn edge, and which of its ways goes first. Only contracts between workers need this file. Definitions only.
-use Rattle.std.specs.Prelude.{ℕ, ◌/◌, ◌<◌, ◌≤◌, ◌≡◌, Bool, true, List, take, ltb, Float}
+use Rattle.std.specs.Prelude.{ℕ, ◌/◌, ◌<◌, ◌≤◌, ◌≡◌, Bool, true, List, take, ltb, Float, Option, None, Some}
 use Rattle.float.specs.Order.{total_cmp_of}
 use Rattle.model.specs.Mesh.{Mesh}
 use Rattle.model.specs.Valid.{indices_fit_of}
@@ -13,8 +13,6 @@ use Rattle.mesh.specs.Widths.{entry_words}
 use Rattle.mesh.specs.Limits.{entry_limit}
 use Rattle.elements.specs.Table.{TableRoom}
 use Rattle.tear.specs.Families.{pair_is, meet}
-use Rattle.tear.specs.declared.families.Pair.{Pair}
-use Rattle.tear.specs.declared.families.Pair.TheVariants.{None, Ends}
 
 -- the elements, the edges and the log stand in their blocks, and the indices of the mesh fit
 pub record PairReady (k : Counts) (lc lv le ll lg : ℕ) (M : Mesh) : Type 0 where
@@ -24,16 +22,16 @@ pub record PairReady (k : Counts) (lc lv le ll lg : ℕ) (M : Mesh) : Type 0 whe
   pub indices : indices_fit_of M ≡ true
 
 -- the particles of a pair, if it has any, are below p
-abbrev pub PairBelow : ℕ → Pair → Type 0
+abbrev pub PairBelow : ℕ → Option (ℕ × ℕ) → Type 0
 PairBelow p None = Unit {0}
-PairBelow p (Ends x y) = (x < p) × (y < p)
+PairBelow p (Some (x, y)) = (x < p) × (y < p)
 
 -- r is the first pair of the families of a and b that meets, in an element or at an edge, in whatever run the blocks hold
-pub record PairMetNow (in_element : Bool) (K : Kind) (a b : ℕ) (W : World) (r : Pair) : Type 0 where
+pub record PairMetNow (in_element : Bool) (K : Kind) (a b : ℕ) (W : World) (r : Option (ℕ × ℕ)) : Type 0 where
   pub is : (R : Run) → W ≡ world_of R.mesh R.log → pair_is r ≡ find (meet in_element K R.mesh) (cross_pairs (family (splits_of R.log) a) (family (splits_of R.log) b))
 
 -- r stands for the torn edge (a, b) in whatever run the blocks hold, and its particles are there
-pub record PairNow (K : Kind) (a b p : ℕ) (W : World) (r : Pair) : Type 0 where
+pub record PairNow (K : Kind) (a b p : ℕ) (W : World) (r : Option (ℕ × ℕ)) : Type 0 where
   pub is : (R : Run) → W ≡ world_of R.mesh R.log → pair_is r ≡ current_pair K R (a, b)
   pub below : PairBelow p r
 

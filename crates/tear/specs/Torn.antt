@@ -1,5 +1,5 @@
 -- One end of a torn edge split, over the blocks. Only contracts between workers need this file. Definitions only.
-use Rattle.std.specs.Prelude.{ℕ, ◌+◌, ◌/◌, ◌<◌, ◌≡◌, List, [], ◌∷◌, ◌++◌, eqb, Float}
+use Rattle.std.specs.Prelude.{ℕ, ◌+◌, ◌/◌, ◌<◌, ◌≡◌, List, [], ◌∷◌, ◌++◌, eqb, Float, Ok}
 use Rattle.lists.specs.Lists.{pick}
 use Rattle.model.specs.Run.{Run, opened}
 use Rattle.model.specs.Elements.{Kind}
@@ -10,8 +10,7 @@ use Rattle.mesh.specs.Workers.{EdgeRoom}
 use Rattle.mesh.specs.declared.Counts.{Counts}
 use Rattle.mesh.specs.Widths.{entry_words}
 use Rattle.mesh.specs.Limits.{particle_limit}
-use Rattle.work.specs.declared.Ran.{Ran}
-use Rattle.work.specs.declared.Ran.TheVariants.{Done}
+use Rattle.work.specs.Ran.{Ran}
 use Rattle.tear.specs.Tears.{Slackened, DamageRoom, Damaged}
 
 -- an entry has room behind l for the numbers a and b, e edges stand in their blocks, and x, y and the copies in theirs
@@ -30,7 +29,7 @@ pub record TearDone (v before count w x y a b e l : ℕ) (roots roots' ends : Li
 
 -- that behind a split which left the counts q; r tells of an entry more
 pub record TearTold (v before count w x y a b : ℕ) (q : Counts) (roots roots' ends : List ℕ) (lengths lengths' : List Float) (log log' : List ℕ) (r : Ran) : Type 0 where
-  pub counts : r ≡ Done (record { particles = q.particles; triangles = q.triangles; edges = q.edges; boundary = q.boundary; log = q.log + 1 })
+  pub counts : r ≡ Ok (record { particles = q.particles; triangles = q.triangles; edges = q.edges; boundary = q.boundary; log = q.log + 1 })
   pub done : TearDone v before count w x y a b q.edges q.log roots roots' ends lengths lengths' log log'
 
 -- x and y are there, and w is the one that is not v; a and b are numbers of particles of the input

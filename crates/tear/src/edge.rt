@@ -9,7 +9,6 @@ ghost use Rattle.mesh.specs.Blocks.{mesh_before};
 ghost use Rattle.mesh.specs.At.{mesh_at};
 ghost use Rattle.mesh.specs.Log.{world_at};
 
-use crate::families::Pair;
 use elements::Kind;
 use mesh::Counts;
 
@@ -28,7 +27,7 @@ fn pair_met(
     lengths: &[f32],
     outline: &[usize],
     log: &[u32],
-) -> Pair
+) -> Option<(usize, usize)>
     requires { PairReady k (length corners.now) (length volumes.now) (length ends.now) (length lengths.now) (length log.now)
         (mesh_at k points.now roots.now corners.now volumes.now ends.now lengths.now outline.now) × Logged k.log log.now }
     ensures { PairMetNow in_element (kind_is kind) a b (world_at k points.now roots.now corners.now volumes.now ends.now lengths.now outline.now log.now) result }
@@ -66,7 +65,7 @@ pub fn pair_now(
     lengths: &[f32],
     outline: &[usize],
     log: &[u32],
-) -> Pair
+) -> Option<(usize, usize)>
     requires { PairReady k (length corners.now) (length volumes.now) (length ends.now) (length lengths.now) (length log.now)
         (mesh_at k points.now roots.now corners.now volumes.now ends.now lengths.now outline.now) × Logged k.log log.now }
     ensures { PairNow (kind_is kind) a b k.particles (world_at k points.now roots.now corners.now volumes.now ends.now lengths.now outline.now log.now) result }
@@ -75,8 +74,8 @@ pub fn pair_now(
         true, kind, a, b, k, points, roots, corners, volumes, ends, lengths, outline, log,
     );
     match held {
-        Pair::Ends(x, y) => Pair::Ends(x, y),
-        Pair::None => pair_met(
+        Some((x, y)) => Some((x, y)),
+        None => pair_met(
             false, kind, a, b, k, points, roots, corners, volumes, ends, lengths, outline, log,
         ),
     }

@@ -4,13 +4,6 @@ ghost use Rattle.mesh.specs.Log.{entry_row};
 ghost use Rattle.mesh.specs.Widths.{end_columns, entry_words};
 ghost use Rattle.tear.specs.Families.{joins_by, source_in, FamilyRoom, FamilyFound, JoinTold, MeetRoom, MeetTold, FirstMet, PairMet, CurrentRoom, FamiliesMet};
 
-// Two particles, or none.
-#[derive(Clone, Copy)]
-pub enum Pair {
-    None,
-    Ends(usize, usize),
-}
-
 // Is entry i a copy whose source stands in a list?
 fn has_source(i: usize, log: &[u32], list: &[usize]) -> bool
     requires { i < length log.now / entry_words }
@@ -30,13 +23,11 @@ pub fn family(a: usize, l: usize, log: &[u32], found: &mut [usize]) -> usize
 {
     found[0] = a;
     let mut r: usize = 1;
-    let mut i: usize = 0;
-    while i < l {
+    for i in 0..l {
         if has_source(i, log, &found[..r]) {
             found[r] = log[6 * i + 1] as usize;
             r += 1;
         }
-        i += 1;
     }
     r
 }
@@ -67,12 +58,10 @@ fn joined(x: usize, y: usize, e: usize, ends: &[usize]) -> bool
     ensures { JoinTold x y e ends.now result }
 {
     let c = ends.len() / mesh::END_COLUMNS;
-    let mut i: usize = 0;
-    while i < e {
+    for i in 0..e {
         if joins(x, y, ends[i], ends[c + i]) {
             return true;
         }
-        i += 1;
     }
     false
 }
@@ -111,17 +100,15 @@ fn first_met(
     requires { MeetRoom k n (length verts.now) e (length ends.now) }
     ensures { FirstMet in_element x ys.now k n verts.now e ends.now result }
 {
-    let mut j: usize = 0;
-    while j < ys.len() {
-        if meets(in_element, x, ys[j], k, n, verts, e, ends) {
+    for (j, &y) in ys.iter().enumerate() {
+        if meets(in_element, x, y, k, n, verts, e, ends) {
             return j;
         }
-        j += 1;
     }
-    j
+    ys.len()
 }
 
-// The first pair of one of xs and one of ys that meets.
+// The first pair of one of xs and one of ys that meets, or none.
 fn first_pair(
     in_element: bool,
     xs: &[usize],
@@ -131,20 +118,18 @@ fn first_pair(
     verts: &[usize],
     e: usize,
     ends: &[usize],
-) -> Pair
+) -> Option<(usize, usize)>
     requires { MeetRoom k n (length verts.now) e (length ends.now) }
     ensures { PairMet in_element xs.now ys.now k n verts.now e ends.now result }
 {
-    let mut i: usize = 0;
-    while i < xs.len() {
+    for i in 0..xs.len() {
         let x = xs[i];
         let j = first_met(in_element, x, ys, k, n, verts, e, ends);
         if j < ys.len() {
-            return Pair::Ends(x, ys[j]);
+            return Some((x, ys[j]));
         }
-        i += 1;
     }
-    Pair::None
+    None
 }
 
 // The first pair of the two families that one element holds, or else the first that an edge joins.
@@ -159,7 +144,7 @@ pub fn family_pair(
     verts: &[usize],
     e: usize,
     ends: &[usize],
-) -> Pair
+) -> Option<(usize, usize)>
     requires { CurrentRoom l (length log.now) k n (length verts.now) e (length ends.now) }
     ensures { FamiliesMet in_element a b l log.now k n verts.now e ends.now result }
 {

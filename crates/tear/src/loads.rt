@@ -34,9 +34,7 @@ fn link_sums(e: usize, ends: &[usize], heads: &mut [u16], nexts: &mut [u16])
     ensures { Linked 0 e ends.now heads.new nexts.new }
 {
     let c = ends.len() / mesh::END_COLUMNS;
-    let mut i = e;
-    while i > 0 {
-        i -= 1;
+    for i in (0..e).rev() {
         let sum = ends[i] + ends[c + i];
         nexts[i] = heads[sum];
         heads[sum] = i as u16;
@@ -62,6 +60,7 @@ fn pair_load(
     let mut most: f32 = 0.0;
     let mut found = false;
     let mut i = heads[x + y] as usize;
+    // A chain: each place tells the next, so there is no range to go over.
     while i < e {
         if both_ends(x, y, ends[i], ends[c + i]) {
             most = float::larger::larger(most, lengths[3 * m + i]);
@@ -119,10 +118,8 @@ fn linked_loads(
     ensures { LoadsRead t e corners.now volumes.now ends.now lengths.now
         loads.new }
 {
-    let mut i: usize = 0;
-    while i < t {
+    for i in 0..t {
         loads[i] = triangle_load(i, e, corners, volumes, ends, lengths, heads, nexts);
-        i += 1;
     }
 }
 

@@ -40,7 +40,7 @@ fn finish_tear(
     work::notes::note(l, 4, a as u32, b as u32, 0, 0, 0, log);
     crate::tears::slacken_bridges(v, before, count, w, e, ends, lengths);
     crate::tears::damage(x, y, before, count, roots);
-    Ran::Done(Counts {
+    Ok(Counts {
         particles: q.particles,
         triangles: q.triangles,
         edges: e,
@@ -83,13 +83,10 @@ pub fn tear_open(
     ensures { let K = kind_is kind in OverBlocks (λ M W at. Works (split_across a b x y K (opened_by K M v n count groups.now)) room W at result) k points roots corners volumes ends lengths outline log × LinkedBehind K corners ends outline links result }
 {
     let was = k.particles;
-    let ran = split::step::split_opened(
+    let q = split::step::split_opened(
         kind, v, n, count, 1, numbers, verts, measures, groups, k, room, points, roots, corners,
         volumes, ends, lengths, outline, log, list, links,
-    );
-    let Ran::Done(q) = ran else {
-        return ran;
-    };
+    )?;
     edge_drops::close(
         q.edges,
         list,

@@ -31,13 +31,11 @@ pub fn slacken_bridges(
 {
     let c = ends.len() / mesh::END_COLUMNS;
     let m = lengths.len() / mesh::LENGTH_COLUMNS;
-    let mut i: usize = 0;
-    while i < e {
+    for i in 0..e {
         if bridges(v, before, count, other, ends[i], ends[c + i]) {
             lengths[2 * m + i] = 0.0;
             lengths[3 * m + i] = 0.0;
         }
-        i += 1;
     }
 }
 
@@ -50,10 +48,8 @@ pub fn damage(x: usize, y: usize, before: usize, count: usize, roots: &mut [usiz
     roots[size + x] = 1;
     roots[size + y] = 1;
     let copies = count - 1;
-    let mut g: usize = 0;
-    while g < copies {
+    for g in 0..copies {
         let w = before + g;
         roots[size + w] = 1;
-        g += 1;
     }
 }

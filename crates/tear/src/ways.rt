@@ -9,7 +9,7 @@ ghost use Rattle.mesh.specs.Widths.{point_columns};
 
 use blade::Point;
 use elements::Kind;
-use float::order::Order;
+use std::cmp::Ordering;
 
 // The offsets of a row's corners from home in the rest shape, added.
 fn offsets(home: Point, row: &[usize], points: &[f32]) -> Point
@@ -17,11 +17,9 @@ fn offsets(home: Point, row: &[usize], points: &[f32]) -> Point
     ensures { result ≡ offsets_by home row.now points.now }
 {
     let mut s = Point { x: 0.0, y: 0.0 };
-    let mut i: usize = 0;
-    while i < row.len() {
+    for i in 0..row.len() {
         let w = row[i];
-        s = blade::plus(s, blade::minus(split_plan::rest_point(w, points), home));
-        i += 1;
+        s = s + (split_plan::rest_point(w, points) - home);
     }
     s
 }
@@ -51,14 +49,12 @@ pub fn far_sides(
     ensures { FarSides v w n k verts.now points.now sides.new }
 {
     let home = split_plan::rest_point(v, points);
-    let dir = blade::minus(split_plan::rest_point(w, points), home);
-    let mut i: usize = 0;
+    let dir = split_plan::rest_point(w, points) - home;
     let mut a: usize = 0;
-    while i < n {
+    for i in 0..n {
         let b = a + k;
         sides[i] = side_of(home, dir, &verts[a..b], points);
         a = b;
-        i += 1;
     }
 }
 
@@ -91,14 +87,12 @@ pub fn mean_load(
 {
     let mut s: f32 = 0.0;
     let mut far: usize = 0;
-    let mut i: usize = 0;
-    while i < n {
+    for i in 0..n {
         if sides[i] == 1 {
             let number = numbers[i];
             s = s + load_of(kind, number, loads, lengths);
             far += 1;
         }
-        i += 1;
     }
     s / (far as f32)
 }
@@ -131,9 +125,9 @@ pub fn goes_first(p: f32, v: usize, q: f32, w: usize) -> bool
 {
     let o = float::order::total_cmp(p, q);
     match o {
-        Order::Less => false,
-        Order::Equal => v < w,
-        Order::Greater => true,
-        Order::Unordered => v < w,
+        Some(Ordering::Less) => false,
+        Some(Ordering::Equal) => v < w,
+        Some(Ordering::Greater) => true,
+        None => v < w,
     }
 }

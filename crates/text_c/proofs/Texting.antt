@@ -7,16 +7,15 @@ use lib.Dec.{leb}
 use lib.ListN.{length}
 use Rattle.lists.specs.Lists.{pick}
 use Rattle.listing.specs.Answers.{answer_for, Wrote}
-use Rattle.listing.specs.declared.Written.{Written}
-use Rattle.listing.specs.declared.Written.TheVariants.{Short, Bytes}
+use Rattle.std.specs.Prelude.{Option, None, Some}
 use Rattle.text_c.specs.Texts.{code_for, TextReplied}
 
-code_is : (b : Bool) (n : ℕ) → code_for (pick b (Bytes n) Short) ≡ pick b 0 4
+code_is : (b : Bool) (n : ℕ) → code_for (pick b (Some n) None) ≡ pick b 0 4
 code_is true n = refl
 code_is false n = refl
 
 -- the answer to what was written
-pub text_replied : (text : List ℕ) (lent : ℕ) (s : List ℕ) (w : Written) (r : ℕ) → Wrote text lent s w → r ≡ code_for w → TextReplied text lent r s
+pub text_replied : (text : List ℕ) (lent : ℕ) (s : List ℕ) (w : Option ℕ) (r : ℕ) → Wrote text lent s w → r ≡ code_for w → TextReplied text lent r s
 unfolding answer_for
 text_replied text lent s w r T e =
     record { code = e ∙ ap code_for T.answer ∙ code_is (leb (length text) lent) (length text); bytes = T.bytes }

@@ -6,8 +6,6 @@ ghost use Rattle.sheetcut.specs.SheetCut.{listed};
 ghost use Rattle.differing.specs.Differed.{differed};
 ghost use Rattle.text_c.specs.Texts.{layout_number, code_for, TextReplied};
 
-use listing::Written;
-
 // The number of the layout.
 pub fn layout() -> u32
     ensures { result ≡ layout_number }
@@ -16,12 +14,12 @@ pub fn layout() -> u32
 }
 
 // What is answered to a text that was written, or was too long for the lent bytes.
-fn code_of(wrote: Written) -> u32
+fn code_of(wrote: Option<usize>) -> u32
     ensures { result ≡ code_for wrote }
 {
     match wrote {
-        Written::Short => 4,
-        Written::Bytes(n) => 0,
+        None => 4,
+        Some(n) => 0,
     }
 }
 

@@ -39,8 +39,7 @@ use Rattle.work.specs.Working.{Within, Ready, Works}
 use Rattle.split.specs.Tables.{FanGrouped, FanSided, GroupsFound, opened_by}
 use Rattle.links.specs.Linked.{MeshLinked}
 use Rattle.split.specs.Linking.{LinkedAfter}
-use Rattle.work.specs.declared.Ran.{Ran}
-use Rattle.work.specs.declared.Ran.TheVariants.{Done}
+use Rattle.work.specs.Ran.{Ran}
 use Rattle.work.proofs.Runs.{works_stay, works_as}
 use Rattle.split.proofs.TabledLaws.{inverse_at, opening_found, fan_grouped, splits_so}
 use Rattle.work.proofs.Placed.{particles_count}
@@ -49,12 +48,8 @@ use Rattle.tear.specs.Tried.{WayReady, WayRead, OpensRoom}
 use Rattle.tear.specs.Pairs.{PairReady, PairBelow, PairNow, Turned}
 use Rattle.tornedge.specs.Cracks.{open_way, sides_across, opens_at, Parted, opened_across, WayAsked, TriedTo, LinkedTried, EndsTold, PairTold, CrackTold}
 use Rattle.tear.specs.Families.{pair_is}
-use Rattle.tear.specs.declared.families.Pair.{Pair}
-use Rattle.tear.specs.declared.families.Pair.TheVariants.{None, Ends}
-use Rattle.tornedge.specs.declared.Parts.{Parts}
-use Rattle.tornedge.specs.declared.Parts.TheVariants.{Whole, Grouped}
-use Rattle.tornedge.specs.declared.Tried.{Tried}
-use Rattle.tornedge.specs.declared.Tried.TheVariants.{Not, Tore}
+use Rattle.tornedge.specs.Tried.{Tried}
+use Rattle.std.specs.Prelude.{None, Some, Ok, Option as Opt}
 
 -- ---- two sides are two groups
 
@@ -115,19 +110,19 @@ module _ {K : Kind} {M : Mesh} {v n : ℕ} {numbers verts : List ℕ} {measures 
 
 -- the groups of a fan that has both sides, in a table
 pub way_parted : {K : Kind} {M : Mesh} {v n : ℕ} {numbers verts : List ℕ} {measures : List Float} {sides : List ℕ} → FanSided K M v n numbers verts measures sides → (w : ℕ) → take n sides ≡ sides_across K M v w → two_sided_of M v (take n sides) ≡ true
-    → {groups : List ℕ} {count : ℕ} → GroupsFound K v n verts sides groups count → 2048 ≤ length groups → Parted K v w M groups (Grouped n count)
+    → {groups : List ℕ} {count : ℕ} → GroupsFound K v n verts sides groups count → 2048 ≤ length groups → Parted K v w M groups (Some (n, count))
 way_parted {K} {M} {v} F w s two {groups} G h = (ap (two_sided_of M v) (sym s) ∙ two, opens_room F two (length groups) h, opening_found F G ∙ ap (opening_of K M v) s)
 
-pub way_whole : (K : Kind) (M : Mesh) (v w : ℕ) (groups : List ℕ) {sides : List ℕ} → sides ≡ sides_across K M v w → two_sided_of M v sides ≡ false → Parted K v w M groups Whole
+pub way_whole : (K : Kind) (M : Mesh) (v w : ℕ) (groups : List ℕ) {sides : List ℕ} → sides ≡ sides_across K M v w → two_sided_of M v sides ≡ false → Parted K v w M groups None
 way_whole K M v w groups s one = ap (two_sided_of M v) (sym s) ∙ one
 
 -- whether v opens, by what was told of its fan
-module _ (K : Kind) (min v w : ℕ) (M : Mesh) (groups : List ℕ) (p : Parts) (T : Parted K v w M groups p) where
-  pub whole_shut : p ≡ Whole → opens_at K min M v w ≡ false
+module _ (K : Kind) (min v w : ℕ) (M : Mesh) (groups : List ℕ) (p : Opt (ℕ × ℕ)) (T : Parted K v w M groups p) where
+  pub whole_shut : p ≡ None → opens_at K min M v w ≡ false
   whole_shut e = ap (λ (b : Bool). b && opens_without_confetti_of K M min (opening_of K M v (sides_across K M v w))) (subst (Parted K v w M groups) e T)
 
-  module _ (n count : ℕ) (e : p ≡ Grouped n count) where
-    grouped : Parted K v w M groups (Grouped n count)
+  module _ (n count : ℕ) (e : p ≡ Some (n, count)) where
+    grouped : Parted K v w M groups (Some (n, count))
     grouped = subst (Parted K v w M groups) e T
 
     pub grouped_room : OpensRoom n (length (fan_of K M v)) (length groups)
@@ -164,11 +159,11 @@ taken_if K ls min M v w t e =
 
 module _ (K : Kind) (min v w : ℕ) (ab xy : ℕ × ℕ) (L : Rooms) (k : Counts) (W : World) (at : Counts → World) where
   -- a way that does not open
-  pub way_shut : opens_at K min W.mesh v w ≡ false → at k ≡ W → TriedTo K min v w ab xy L k W at Not
+  pub way_shut : opens_at K min W.mesh v w ≡ false → at k ≡ W → TriedTo K min v w ab xy L k W at None
   way_shut e u = (λ ls. taken_if K ls min W.mesh v w false e, u)
 
   -- one that does, and was split
-  pub way_tried : (r : Ran) → opens_at K min W.mesh v w ≡ true → Works (opened_across K W.mesh v w ab xy) L W at r → TriedTo K min v w ab xy L k W at (Tore r)
+  pub way_tried : (r : Ran) → opens_at K min W.mesh v w ≡ true → Works (opened_across K W.mesh v w ab xy) L W at r → TriedTo K min v w ab xy L k W at (Some r)
   unfolding crack_by
   way_tried r e S = λ ls. (way_of K ls W.mesh v w, (taken_if K ls min W.mesh v w true e, S))
 
@@ -189,13 +184,13 @@ module _ (K : Kind) (min v w : ℕ) (ab xy : ℕ × ℕ) (L : Rooms) (W : World)
       record { works = λ ls. works_as (λ R u. ap (λ (z : Option Way). crack_by K z ab xy R) (sym (e ls) ∙ ap (λ (X : World). in_turn ls X.mesh) u)) (F ls) }
 
   -- the first opens
-  pub first_taken : (k : Counts) (at : Counts → World) (t : Tried) (r : Ran) → t ≡ Tore r → TriedTo K min v w ab xy L k W at t → EndsTold K min v w ab xy L W at r
+  pub first_taken : (k : Counts) (at : Counts → World) (t : Tried) (r : Ran) → t ≡ Some r → TriedTo K min v w ab xy L k W at t → EndsTold K min v w ab xy L W at r
   first_taken k at t r e T =
-      let S : TriedTo K min v w ab xy L k W at (Tore r) = subst (TriedTo K min v w ab xy L k W at) e T in
+      let S : TriedTo K min v w ab xy L k W at (Some r) = subst (TriedTo K min v w ab xy L k W at) e T in
       taken_works at r (λ ls. some (S ls).0) (λ ls. ap (λ (z : Option Way). first_of z (open_way K ls min W.mesh w v)) (S ls).1.0) (λ ls. (S ls).1.1)
 
-  module _ (k : Counts) (at : Counts → World) (t : Tried) (e : t ≡ Not) (T : TriedTo K min v w ab xy L k W at t) where
-    shut : TriedTo K min v w ab xy L k W at Not
+  module _ (k : Counts) (at : Counts → World) (t : Tried) (e : t ≡ None) (T : TriedTo K min v w ab xy L k W at t) where
+    shut : TriedTo K min v w ab xy L k W at None
     shut = subst (TriedTo K min v w ab xy L k W at) e T
 
     -- the blocks hold what they held
@@ -211,24 +206,24 @@ module _ (K : Kind) (min v w : ℕ) (ab xy : ℕ × ℕ) (L : Rooms) (W : World)
     second_tried at' s S = subst (λ (X : World). TriedTo K min w v ab xy L k X at' s) still S
 
     -- the second opens
-    pub second_taken : (at' : Counts → World) (s : Tried) (r : Ran) → s ≡ Tore r → TriedTo K min w v ab xy L k (at k) at' s → EndsTold K min v w ab xy L W at' r
+    pub second_taken : (at' : Counts → World) (s : Tried) (r : Ran) → s ≡ Some r → TriedTo K min w v ab xy L k (at k) at' s → EndsTold K min v w ab xy L W at' r
     second_taken at' s r q U =
-        let S : TriedTo K min w v ab xy L k W at' (Tore r) = subst (TriedTo K min w v ab xy L k W at') q (second_tried at' s U) in
+        let S : TriedTo K min w v ab xy L k W at' (Some r) = subst (TriedTo K min w v ab xy L k W at') q (second_tried at' s U) in
         taken_works at' r (λ ls. some (S ls).0) (λ ls. ap₂ (λ (y z : Option Way). first_of y z) (shut.0 ls) (S ls).1.0) (λ ls. (S ls).1.1)
 
     -- neither does
-    pub none_taken : (at' : Counts → World) (s : Tried) → s ≡ Not → TriedTo K min w v ab xy L k (at k) at' s → Within k L → EndsTold K min v w ab xy L W at' (Done k)
+    pub none_taken : (at' : Counts → World) (s : Tried) → s ≡ None → TriedTo K min w v ab xy L k (at k) at' s → Within k L → EndsTold K min v w ab xy L W at' (Ok k)
     unfolding crack_by
     none_taken at' s q U b =
-        let S : TriedTo K min w v ab xy L k W at' Not = subst (TriedTo K min w v ab xy L k W at') q (second_tried at' s U) in
-        taken_works at' (Done k) (λ ls. none) (λ ls. ap₂ (λ (y z : Option Way). first_of y z) (shut.0 ls) (S.0 ls))
-        (λ ls. subst (λ (X : World). Works (λ R. R) L X at' (Done k)) S.1 (works_stay {at = at'} k b))
+        let S : TriedTo K min w v ab xy L k W at' None = subst (TriedTo K min w v ab xy L k W at') q (second_tried at' s U) in
+        taken_works at' (Ok k) (λ ls. none) (λ ls. ap₂ (λ (y z : Option Way). first_of y z) (shut.0 ls) (S.0 ls))
+        (λ ls. subst (λ (X : World). Works (λ R. R) L X at' (Ok k)) S.1 (works_stay {at = at'} k b))
 
 -- the tables behind a way that opened, and behind one that did not
-pub linked_torn : (K : Kind) (t e b : ℕ) (corners ends outline links : List ℕ) (s : Tried) (r : Ran) → s ≡ Tore r → LinkedTried K t e b corners ends outline links s → LinkedAfter K corners ends outline links r
+pub linked_torn : (K : Kind) (t e b : ℕ) (corners ends outline links : List ℕ) (s : Tried) (r : Ran) → s ≡ Some r → LinkedTried K t e b corners ends outline links s → LinkedAfter K corners ends outline links r
 linked_torn K t e b corners ends outline links s r q X = subst (LinkedTried K t e b corners ends outline links) q X
 
-pub linked_shut : (K : Kind) (t e b : ℕ) (corners ends outline links : List ℕ) (s : Tried) → s ≡ Not → LinkedTried K t e b corners ends outline links s → MeshLinked K t e b corners ends outline links
+pub linked_shut : (K : Kind) (t e b : ℕ) (corners ends outline links : List ℕ) (s : Tried) → s ≡ None → LinkedTried K t e b corners ends outline links s → MeshLinked K t e b corners ends outline links
 linked_shut K t e b corners ends outline links s q X = subst (LinkedTried K t e b corners ends outline links) q X
 
 -- ---- their order
@@ -294,18 +289,18 @@ module _ (K : Kind) (min x y : ℕ) (ab : ℕ × ℕ) (loads : List Float) (k : 
 
 -- ---- one edge
 
-module _ (K : Kind) (min a b p t : ℕ) (loads : List Float) (L : Rooms) (W : World) (r : Pair) (N : PairNow K a b p W r) where
+module _ (K : Kind) (min a b p t : ℕ) (loads : List Float) (L : Rooms) (W : World) (r : Opt (ℕ × ℕ)) (N : PairNow K a b p W r) where
   -- no pair stands for it
-  pub edge_gone : (at : Counts → World) (k : Counts) → at k ≡ W → Within k L → r ≡ None → CrackTold K min a b t loads L W at (Done k)
+  pub edge_gone : (at : Counts → World) (k : Counts) → at k ≡ W → Within k L → r ≡ None → CrackTold K min a b t loads L W at (Ok k)
   unfolding crack_edge crack_pair
   edge_gone at k s w e =
       record {
         works = λ ls h.
-            subst (λ (Z : World). Works (λ R. crack_edge K ls min R (a, b)) L Z at (Done k)) s
+            subst (λ (Z : World). Works (λ R. crack_edge K ls min R (a, b)) L Z at (Ok k)) s
             (works_as (λ R u. ap (λ (z : Option (ℕ × ℕ)). crack_pair K ls min (a, b) z R) (ap pair_is (sym e) ∙ N.is R (sym s ∙ u))) (works_stay {at = at} k w));
       }
 
-  module _ (x y : ℕ) (e : r ≡ Ends x y) where
+  module _ (x y : ℕ) (e : r ≡ Some (x, y)) where
     pub edge_below : (x < p) × (y < p)
     edge_below = subst (PairBelow p) e N.below
 

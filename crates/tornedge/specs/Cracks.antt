@@ -1,5 +1,5 @@
 -- One torn edge cracked, over the blocks. Only contracts between workers need this file. Definitions only.
-use Rattle.std.specs.Prelude.{ℕ, ◌<◌, ◌≡◌, Bool, true, false, ◌&&◌, List, [], ◌∷◌, map, length, take, Float}
+use Rattle.std.specs.Prelude.{ℕ, ◌<◌, ◌≡◌, Bool, true, false, ◌&&◌, List, [], ◌∷◌, map, length, take, Float, None, Some, Option as Opt}
 use Rattle.std.proofs.Math.Option.{Option, none, some}
 use Rattle.lists.specs.Lists.{find}
 use Rattle.model.specs.Mesh.{Mesh}
@@ -13,15 +13,12 @@ use Rattle.mesh.specs.Log.{World}
 use Rattle.mesh.specs.declared.Counts.{Counts}
 use Rattle.mesh.specs.declared.Rooms.{Rooms}
 use Rattle.work.specs.Working.{Works}
-use Rattle.work.specs.declared.Ran.{Ran}
+use Rattle.work.specs.Ran.{Ran}
 use Rattle.split.specs.Tables.{opened_by}
 use Rattle.split.specs.Linking.{LinkedAfter}
 use Rattle.tear.specs.Tried.{OpensRoom}
 use Rattle.tear.specs.Torn.{TearAsked}
-use Rattle.tornedge.specs.declared.Parts.{Parts}
-use Rattle.tornedge.specs.declared.Parts.TheVariants.{Whole, Grouped}
-use Rattle.tornedge.specs.declared.Tried.{Tried}
-use Rattle.tornedge.specs.declared.Tried.TheVariants.{Not, Tore}
+use Rattle.tornedge.specs.Tried.{Tried}
 use Rattle.mesh.specs.Blocks.{LentIndices}
 
 -- ---- one way tried
@@ -39,9 +36,9 @@ abbrev pub opens_at : Kind → ℕ → Mesh → ℕ → ℕ → Bool
 opens_at K min M v w = two_sided_of M v (sides_across K M v w) && opens_without_confetti_of K M min (opening_of K M v (sides_across K M v w))
 
 -- what was told of v's fan: v is not free or a side is not there; or a table has the groups of all its elements, and v opens by them
-abbrev pub Parted : Kind → ℕ → ℕ → Mesh → List ℕ → Parts → Type 0
-Parted K v w M groups Whole = two_sided_of M v (sides_across K M v w) ≡ false
-Parted K v w M groups (Grouped n count) = (two_sided_of M v (sides_across K M v w) ≡ true) × OpensRoom n (length (fan_of K M v)) (length groups) × (opened_by K M v n count groups ≡ opening_of K M v (sides_across K M v w))
+abbrev pub Parted : Kind → ℕ → ℕ → Mesh → List ℕ → Opt (ℕ × ℕ) → Type 0
+Parted K v w M groups None = two_sided_of M v (sides_across K M v w) ≡ false
+Parted K v w M groups (Some (n, count)) = (two_sided_of M v (sides_across K M v w) ≡ true) × OpensRoom n (length (fan_of K M v)) (length groups) × (opened_by K M v n count groups ≡ opening_of K M v (sides_across K M v w))
 
 -- v is split across (x, y), an edge whose other end is w, and the torn edge (a, b) is logged
 abbrev pub opened_across : Kind → Mesh → ℕ → ℕ → ℕ × ℕ → ℕ × ℕ → Run → Run
@@ -54,13 +51,13 @@ pub record WayAsked (v w x y a b p : ℕ) : Type 0 where
 
 -- what was told of the way at v, whatever the loads: it doesn't open, and the blocks hold what they held; or the edge was cracked by it
 abbrev pub TriedTo : Kind → ℕ → ℕ → ℕ → ℕ × ℕ → ℕ × ℕ → Rooms → Counts → World → (Counts → World) → Tried → Type 0
-TriedTo K min v w ab xy L k W at Not = ((ls : List Float) → open_way K ls min W.mesh v w ≡ none) × (at k ≡ W)
-TriedTo K min v w ab xy L k W at (Tore r) = (ls : List Float) → (p : Way) × ((open_way K ls min W.mesh v w ≡ some p) × Works (crack_by K (some p) ab xy) L W at r)
+TriedTo K min v w ab xy L k W at None = ((ls : List Float) → open_way K ls min W.mesh v w ≡ none) × (at k ≡ W)
+TriedTo K min v w ab xy L k W at (Some r) = (ls : List Float) → (p : Way) × ((open_way K ls min W.mesh v w ≡ some p) × Works (crack_by K (some p) ab xy) L W at r)
 
 -- behind a way that was tried: the tables are those of the blocks, as they were or as the split left them
 abbrev pub LinkedTried : Kind → ℕ → ℕ → ℕ → List ℕ → List ℕ → List ℕ → List ℕ → Tried → Type 0
-LinkedTried K t e b corners ends outline links Not = MeshLinked K t e b corners ends outline links
-LinkedTried K t e b corners ends outline links (Tore r) = LinkedAfter K corners ends outline links r
+LinkedTried K t e b corners ends outline links None = MeshLinked K t e b corners ends outline links
+LinkedTried K t e b corners ends outline links (Some r) = LinkedAfter K corners ends outline links r
 
 -- ---- one edge
 

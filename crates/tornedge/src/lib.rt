@@ -16,24 +16,12 @@ ghost use Rattle.mesh.specs.At.{mesh_at};
 
 use elements::Kind;
 use mesh::{Counts, Rooms};
-use tear::families::Pair;
 use work::Ran;
 
-// How an edge parts the fan of one of its ends: not into two sides; or so many elements into so many groups.
-#[derive(Clone, Copy)]
-pub enum Parts {
-    Whole,
-    Grouped(usize, usize),
-}
+// What trying a way came to: nothing where it doesn't open, or what its split came to.
+pub type Tried = Option<Ran>;
 
-// What trying a way came to: it doesn't open, or what its split came to.
-#[derive(Clone, Copy)]
-pub enum Tried {
-    Not,
-    Tore(Ran),
-}
-
-// The groups of v's fan across the edge to w, if both sides are there and v is free. The tables of the fan are here, and stand no longer than it takes.
+// The groups of v's fan across the edge to w, if both sides are there and v is free: how many elements, and how many groups. The tables of the fan are here, and stand no longer than it takes.
 fn way_groups(
     kind: Kind,
     v: usize,
@@ -49,7 +37,7 @@ fn way_groups(
     sides: &mut [usize],
     groups: &mut [usize],
     links: &[u16],
-) -> Parts
+) -> Option<(usize, usize)>
     requires { WayReady v w k (length points.now) (length corners.now) (length volumes.now) (length ends.now)
         (length lengths.now) (mesh_at k points.now roots.now corners.now volumes.now ends.now lengths.now outline.now) × (2048 ≤ length sides.old)
         × (2048 ≤ length groups.old) × MeshLinked (kind_is kind) k.triangles k.edges k.boundary corners.now ends.now outline.now links.now }
@@ -78,9 +66,9 @@ fn way_groups(
     );
     if tear::ways::two_sided(v, n, sides, points) {
         let count = split::fans::group_fan(kind, v, n, &verts, sides, groups);
-        return Parts::Grouped(n, count);
+        return Some((n, count));
     }
-    Parts::Whole
+    None
 }
 
 // Does the way at v open: are both sides there, and does each group reach the minimum piece?
@@ -123,11 +111,11 @@ fn way_open(
         links,
     );
     match parts {
-        Parts::Grouped(n, count) => tear::tried::way_opens(
+        Some((n, count)) => tear::tried::way_opens(
             kind, v, n, count, minimum, k, points, roots, corners, volumes, ends, lengths, outline,
             &groups, &mut sides,
         ),
-        Parts::Whole => false,
+        None => false,
     }
 }
 
@@ -219,12 +207,12 @@ fn try_way(
     if way_open(
         kind, minimum, v, w, k, points, roots, corners, volumes, ends, lengths, outline, links,
     ) {
-        return Tried::Tore(open_way(
+        return Some(open_way(
             kind, v, w, x, y, a, b, k, room, points, roots, corners, volumes, ends, lengths,
             outline, log, links,
         ));
     }
-    Tried::Not
+    None
 }
 
 // Tries the way at v, and where it does not open the way at w; v and w are the ends of (x, y).
@@ -259,7 +247,7 @@ fn crack_ends(
         kind, minimum, v, w, x, y, a, b, k, room, points, roots, corners, volumes, ends, lengths,
         outline, log, links,
     );
-    if let Tried::Tore(ran) = first {
+    if let Some(ran) = first {
         return ran;
     }
     let second = try_way(
@@ -267,8 +255,8 @@ fn crack_ends(
         outline, log, links,
     );
     match second {
-        Tried::Tore(ran) => ran,
-        Tried::Not => Ran::Done(k),
+        Some(ran) => ran,
+        None => Ok(k),
     }
 }
 
@@ -339,8 +327,8 @@ pub fn crack_edge(
         kind, a, b, k, points, roots, corners, volumes, ends, lengths, outline, log,
     );
     match pair {
-        Pair::None => Ran::Done(k),
-        Pair::Ends(x, y) => crack_pair(
+        None => Ok(k),
+        Some((x, y)) => crack_pair(
             kind, minimum, x, y, a, b, loads, k, room, points, roots, corners, volumes, ends,
             lengths, outline, log, links,
         ),

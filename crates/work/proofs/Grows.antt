@@ -10,10 +10,10 @@ use Rattle.model.specs.Mesh.{blank_edge}
 use Rattle.mesh.specs.At.{edges_at}
 use Rattle.mesh.specs.Workers.{row_at}
 use Rattle.work.specs.Rows.{GrownTo}
-use Rattle.work.specs.declared.Grown.TheVariants.{Rows}
+use Rattle.std.specs.Prelude.{Some}
 
 -- rows that are all there
-pub grown_all : {A : Type 0} (r room : ℕ) (l : List A) (rows : ℕ → List A) → length (rows r) ≡ r → r ≤ room → rows r ≡ l → GrownTo (Rows r) room l rows
+pub grown_all : {A : Type 0} (r room : ℕ) (l : List A) (rows : ℕ → List A) → length (rows r) ≡ r → r ≤ room → rows r ≡ l → GrownTo (Some r) room l rows
 grown_all r room l rows m h e =
     let many : r ≡ length l = sym m ∙ ap length e in
     (le-leb (length l) room (subst (λ (z : ℕ). z ≤ room) many h), many, e)

@@ -18,8 +18,10 @@ use Rattle.mesh.specs.Given.{as_rooms}
 use Rattle.mesh.specs.declared.Counts.{Counts}
 use Rattle.mesh.specs.declared.Rooms.{Rooms}
 use Rattle.work.specs.Working.{Within, Went, Works, WorksBeside}
-use Rattle.work.specs.declared.Ran.{Ran}
-use Rattle.work.specs.declared.Ran.TheVariants.{Refused, Done}
+use Rattle.work.specs.Ran.{Ran}
+use Rattle.std.specs.Prelude.{Ok, Err}
+use Rattle.mesh.specs.declared.refusals.Refusal.{Refusal}
+use Rattle.mesh.specs.Refused.{number_of}
 
 -- ---- the rooms of one step
 
@@ -53,15 +55,15 @@ step_fault L R M more e b z =
 
 -- what a worker tells of one step to M that logs `more`: the room that it lacks; or the blocks hold M and the log
 abbrev pub StepTold : Rooms → Run → Mesh → List Entry → ℕ → ℕ → (Counts → World) → Ran → Type 0
-StepTold L R M more e b at (Refused c) = (too_small (as_rooms L) (need_behind R M more e b) ≡ c) × (0 < c)
-StepTold L R M more e b at (Done k) = (too_small (as_rooms L) (need_behind R M more e b) ≡ 0) × Within k L × (at k ≡ world_of M (R.log ++ more))
+StepTold L R M more e b at (Err c) = (too_small (as_rooms L) (need_behind R M more e b) ≡ number_of c) × (0 < number_of c)
+StepTold L R M more e b at (Ok k) = (too_small (as_rooms L) (need_behind R M more e b) ≡ 0) × Within k L × (at k ≡ world_of M (R.log ++ more))
 
 -- so a worker on one step went as it told
 pub went_step : (L : Rooms) (R : Run) (M : Mesh) (more : List Entry) (e b : ℕ) (at : Counts → World) (r : Ran) → first_fault (as_rooms L) R.needs ≡ 0
     → StepTold L R M more e b at r → Went L (step_to R M more e b) at r
 unfolding step_to
-went_step L R M more e b at (Refused c) z T = (step_fault (as_rooms L) R M more e b z ∙ T.0, T.1)
-went_step L R M more e b at (Done k) z T = (step_fault (as_rooms L) R M more e b z ∙ T.0, T.1, T.2)
+went_step L R M more e b at (Err c) z T = (step_fault (as_rooms L) R M more e b z ∙ T.0, T.1)
+went_step L R M more e b at (Ok k) z T = (step_fault (as_rooms L) R M more e b z ∙ T.0, T.1, T.2)
 
 -- ---- one worker behind another
 
@@ -71,7 +73,7 @@ pub beside : {f : Run → Run} {L : Rooms} {W : List Float → List ℕ → Worl
 beside B points roots = B.works points roots
 
 -- a worker that does nothing
-pub works_stay : {L : Rooms} {at : Counts → World} (k : Counts) → Within k L → Works (λ (R : Run). R) L (at k) at (Done k)
+pub works_stay : {L : Rooms} {at : Counts → World} (k : Counts) → Within k L → Works (λ (R : Run). R) L (at k) at (Ok k)
 works_stay k w = record { went = λ R e z. (z, w, e) }
 
 -- a worker on f is one on g, where the two agree on the runs that the blocks hold
@@ -79,19 +81,19 @@ pub works_as : {f g : Run → Run} {L : Rooms} {W : World} {at : Counts → Worl
 works_as {L = L} {at = at} {r = r} same F = record { went = λ R e z. subst (λ (S : Run). Went L S at r) (same R e) (F.went R e z) }
 
 -- f is done, and then g is done to what it left
-pub works_then : {f g : Run → Run} {L : Rooms} {W : World} {at at' : Counts → World} {k : Counts} {r : Ran} → Works f L W at (Done k) → Works g L (at k) at' r
+pub works_then : {f g : Run → Run} {L : Rooms} {W : World} {at at' : Counts → World} {k : Counts} {r : Ran} → Works f L W at (Ok k) → Works g L (at k) at' r
     → Works (λ (R : Run). g (f R)) L W at' r
 works_then {f} F G = record { went = λ R e z. let h = F.went R e z in G.went (f R) h.2 h.0 }
 
 -- f lacks room, and so does what goes on behind it
-pub works_refused : {f : Run → Run} (g : Run → Run) {L : Rooms} {W : World} {at at' : Counts → World} {c : ℕ} → ((R : Run) → Onward (f R) (g (f R))) → Works f L W at (Refused c)
-    → Works (λ (R : Run). g (f R)) L W at' (Refused c)
+pub works_refused : {f : Run → Run} (g : Run → Run) {L : Rooms} {W : World} {at at' : Counts → World} {c : Refusal} → ((R : Run) → Onward (f R) (g (f R))) → Works f L W at (Err c)
+    → Works (λ (R : Run). g (f R)) L W at' (Err c)
 works_refused {f} g {L} {c = c} O F =
     record {
       went =
           λ R e z.
           let h = F.went R e z in
-          by c (f R) (g (f R)) (O R) h.0 h.1;
+          by (number_of c) (f R) (g (f R)) (O R) h.0 h.1;
     }
   where
     by : (c : ℕ) (S T : Run) → Onward S T → first_fault (as_rooms L) S.needs ≡ c → 0 < c → (first_fault (as_rooms L) T.needs ≡ c) × (0 < c)

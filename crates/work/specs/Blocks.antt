@@ -8,7 +8,7 @@ use Rattle.mesh.specs.Filled.{lent}
 use Rattle.mesh.specs.Blocks.{NumbersIn, LentNumbersIn, IndicesIn, LentIndicesIn, Numbers, LentNumbers, Indices, LentIndices, mesh_in, world_before, world_behind}
 use Rattle.mesh.specs.declared.Counts.{Counts}
 use Rattle.mesh.specs.declared.Rooms.{Rooms}
-use Rattle.work.specs.declared.Ran.{Ran}
+use Rattle.work.specs.Ran.{Ran}
 use Rattle.work.specs.Working.{Ready, SettleRoom, Works, WorksBeside}
 
 -- before a call: the lent blocks hold a mesh whose indices fit, within the rooms

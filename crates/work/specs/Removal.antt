@@ -1,5 +1,5 @@
 -- Marked edges and boundary entries go from the blocks, and edges that go are noted in the log, the marked or the listed. Only contracts between workers need this file. Definitions only.
-use Rattle.std.specs.Prelude.{ℕ, ◌+◌, ◌/◌, ◌<◌, ◌≤◌, ◌≡◌, Bool, List, ◌++◌, map, length, get_or, take, eqb, Float}
+use Rattle.std.specs.Prelude.{ℕ, ◌+◌, ◌/◌, ◌<◌, ◌≤◌, ◌≡◌, Bool, List, ◌++◌, map, length, get_or, take, eqb, Float, Ok, Err}
 use Rattle.lists.specs.Lists.{sift, keep, up_to}
 use Rattle.columns.specs.Block.{cell}
 use Rattle.mesh.specs.At.{edges_at, boundary_at}
@@ -10,9 +10,9 @@ use Rattle.mesh.specs.declared.Rooms.{Rooms}
 use Rattle.mesh.specs.Widths.{end_columns, length_columns, side_columns, entry_words}
 use Rattle.mesh.specs.Limits.{particle_limit}
 use Rattle.work.specs.Places.{EndsIn}
-use Rattle.work.specs.declared.Ran.{Ran}
-use Rattle.work.specs.declared.Ran.TheVariants.{Refused, Done}
+use Rattle.work.specs.Ran.{Ran}
 use Rattle.model.specs.Refusals.{entry_refusal}
+use Rattle.mesh.specs.Refused.{number_of}
 
 -- ---- masks
 
@@ -87,5 +87,5 @@ pub record BlocksGone (L : Rooms) (k q : Counts) (edge_mask side_mask ends ends'
 
 -- what was told of the removal: the log lacks room; or the new counts
 abbrev pub GoneTo : Rooms → Counts → List ℕ → List ℕ → List ℕ → List ℕ → List Float → List Float → List ℕ → List ℕ → List ℕ → List ℕ → Ran → Type 0
-GoneTo L k edge_mask side_mask ends ends' lengths lengths' outline outline' log log' (Refused c) = (c ≡ entry_refusal) × (L.log < k.log + length (marked_of edge_mask k.edges))
-GoneTo L k edge_mask side_mask ends ends' lengths lengths' outline outline' log log' (Done q) = BlocksGone L k q edge_mask side_mask ends ends' lengths lengths' outline outline' log log'
+GoneTo L k edge_mask side_mask ends ends' lengths lengths' outline outline' log log' (Err c) = (number_of c ≡ entry_refusal) × (L.log < k.log + length (marked_of edge_mask k.edges))
+GoneTo L k edge_mask side_mask ends ends' lengths lengths' outline outline' log log' (Ok q) = BlocksGone L k q edge_mask side_mask ends ends' lengths lengths' outline outline' log log'

@@ -1,5 +1,5 @@
 -- A call at work in lent blocks: the rooms, the counts, and what a worker promises of the run that the blocks hold. Definitions only.
-use Rattle.std.specs.Prelude.{ℕ, ◌/◌, ◌<◌, ◌≤◌, ◌≡◌, true, List, map, Float}
+use Rattle.std.specs.Prelude.{ℕ, ◌/◌, ◌<◌, ◌≤◌, ◌≡◌, true, List, map, Float, Ok, Err}
 use Rattle.model.specs.Mesh.{Mesh}
 use Rattle.model.specs.Valid.{indices_fit_of}
 use Rattle.model.specs.Run.{Run, Entry}
@@ -10,8 +10,8 @@ use Rattle.mesh.specs.declared.Counts.{Counts}
 use Rattle.mesh.specs.declared.Rooms.{Rooms}
 use Rattle.mesh.specs.Widths.{point_columns, corner_columns, end_columns, length_columns, root_columns, volume_columns, side_columns, entry_words}
 use Rattle.mesh.specs.Limits.{particle_limit, triangle_limit, edge_limit, boundary_limit, entry_limit}
-use Rattle.work.specs.declared.Ran.{Ran}
-use Rattle.work.specs.declared.Ran.TheVariants.{Refused, Done}
+use Rattle.work.specs.Ran.{Ran}
+use Rattle.mesh.specs.Refused.{number_of}
 
 -- the counts are within the rooms
 pub record Within (k : Counts) (L : Rooms) : Type 0 where
@@ -65,8 +65,8 @@ pub record Logged (l : ℕ) (log : List ℕ) : Type 0 where
 
 -- what a worker that was to bring the run to S tells: the first room that lacks; or the blocks hold S
 abbrev pub Went : Rooms → Run → (Counts → World) → Ran → Type 0
-Went L S at (Refused c) = (first_fault (as_rooms L) S.needs ≡ c) × (0 < c)
-Went L S at (Done k) = (first_fault (as_rooms L) S.needs ≡ 0) × Within k L × (at k ≡ world_of S.mesh S.log)
+Went L S at (Err c) = (first_fault (as_rooms L) S.needs ≡ number_of c) × (0 < number_of c)
+Went L S at (Ok k) = (first_fault (as_rooms L) S.needs ≡ 0) × Within k L × (at k ≡ world_of S.mesh S.log)
 
 -- a worker does f to whatever run the blocks hold
 pub record Works (f : Run → Run) (L : Rooms) (W : World) (at : Counts → World) (r : Ran) : Type 0 where

@@ -5,17 +5,7 @@ pub mod notes;
 pub mod removal;
 
 use mesh::Counts;
+use mesh::refusals::Refusal;
 
-// What a step came to: the number of the room that lacks, or the new counts.
-#[derive(Clone, Copy)]
-pub enum Ran {
-    Refused(usize),
-    Done(Counts),
-}
-
-// How many rows a list has after rows were appended, or that there is no room for them.
-#[derive(Clone, Copy)]
-pub enum Grown {
-    Lacking,
-    Rows(usize),
-}
+// What a step came to: the refusal of the room that lacks, or the new counts.
+pub type Ran = Result<Counts, Refusal>;

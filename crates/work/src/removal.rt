@@ -5,6 +5,7 @@ ghost use Rattle.mesh.specs.Workers.{Removed};
 ghost use Rattle.work.specs.Removal.{marked_of, NoteRoom, EdgesNoted, ListNoteRoom, ListNoted, MarkedRoom, GoneRoom, GoneTo};
 
 use crate::Ran;
+use mesh::refusals::Refusal;
 use mesh::{Counts, Rooms};
 
 // Notes the marked edges among the first n, by their ends, behind the `at` entries of the log; returns how many entries there are.
@@ -14,13 +15,11 @@ pub fn note_edges(mask: &[usize], n: usize, at: usize, ends: &[usize], log: &mut
 {
     let c = ends.len() / mesh::END_COLUMNS;
     let mut w = at;
-    let mut i: usize = 0;
-    while i < n {
+    for i in 0..n {
         if mask[i] == 1 {
             crate::notes::note(w, 2, ends[i] as u32, ends[c + i] as u32, 0, 0, 0, log);
             w += 1;
         }
-        i += 1;
     }
     w
 }
@@ -49,11 +48,9 @@ pub fn note_listed(list: &[usize], s: usize, at: usize, ends: &[usize], log: &mu
     ensures { ListNoted list.now s at ends.now log.old log.new result }
 {
     let c = ends.len() / mesh::END_COLUMNS;
-    let mut i: usize = 0;
-    while i < s {
+    for i in 0..s {
         let e = list[i];
         crate::notes::note(at + i, 2, ends[e] as u32, ends[c + e] as u32, 0, 0, 0, log);
-        i += 1;
     }
     at + s
 }
@@ -94,18 +91,18 @@ pub fn remove_marked(
         lengths.old lengths.new outline.old outline.new log.old log.new result }
 {
     if room.log - k.log < s {
-        return Ran::Refused(mesh::refusals::ENTRIES);
+        return Err(Refusal::Entries);
     }
     let g = note_marked(edge_mask, k.edges, s, k.log, ends, log);
     let e = drop_marked(edge_mask, k.edges, s, ends, lengths);
-    let b = columns::keep_block_usize(
+    let b = columns::keep_block(
         side_mask,
         k.boundary,
         2,
         outline.len() / mesh::SIDE_COLUMNS,
         outline,
     );
-    Ran::Done(Counts {
+    Ok(Counts {
         particles: k.particles,
         triangles: k.triangles,
         edges: e,

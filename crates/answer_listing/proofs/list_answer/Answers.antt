@@ -7,15 +7,15 @@ use Rattle.answer_listing.proofs.Lengths.{listing_few}
 use Rattle.answer_listing.proofs.list_answer.Goals as goal
 
 pub count_pieces-found-requires : goal.count_pieces-found-requires
-count_pieces-found-requires c = (done_listable _ _ _ _ _ _ _ _ c.in-Done.is c.requires).0
+count_pieces-found-requires c = (done_listable _ _ _ _ _ _ _ c.in-Ok.is c.requires).0
 
 pub write_listing-requires : goal.write_listing-requires
-write_listing-requires c = (done_listable _ _ _ _ _ _ _ _ c.in-Done.is c.requires).1
+write_listing-requires c = (done_listable _ _ _ _ _ _ _ c.in-Ok.is c.requires).1
 
-pub returns-in-Refused : goal.returns-in-Refused
-returns-in-Refused c = refused_text _ _ _ _ _ _ _ _ _ _ _ c.in-Refused.is (record { wrote = c.write_refused.ensures; enough = refused_few _ (search rules) })
+pub returns-in-Err : goal.returns-in-Err
+returns-in-Err c = refused_text _ _ _ _ _ _ _ _ _ _ _ _ c.in-Err.is c.number.ensures (record { wrote = c.write_refused.ensures; enough = refused_few _ (search rules) })
 
-pub returns-in-Done : goal.returns-in-Done
-returns-in-Done c =
-    let H = done_listable _ _ _ _ _ _ _ _ c.in-Done.is c.requires in
-    done_text _ _ _ _ _ _ _ _ _ _ _ _ _ c.in-Done.is c.count_pieces-found.ensures (record { wrote = c.write_listing.ensures; enough = listing_few _ _ _ _ _ H.2 (λ j. omega (arith, c.shared_slice_known-5-1.given j)) (omega (arith, H.0.few_particles)) (omega (arith, c.count_pieces-found.type_inv)) })
+pub returns-in-Ok : goal.returns-in-Ok
+returns-in-Ok c =
+    let H = done_listable _ _ _ _ _ _ _ c.in-Ok.is c.requires in
+    done_text _ _ _ _ _ _ _ _ _ _ _ _ c.in-Ok.is c.count_pieces-found.ensures (record { wrote = c.write_listing.ensures; enough = listing_few _ _ _ _ _ H.2 (λ j. omega (arith, c.shared_slice_known-5-1.given j)) (omega (arith, H.0.few_particles)) (omega (arith, c.count_pieces-found.type_inv)) })

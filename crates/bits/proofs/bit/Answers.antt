@@ -7,4 +7,4 @@ use Rattle.bits.proofs.bit.Goals as goal
 pub returns : goal.returns
 returns c =
     let a = c.args in
-    (rw (c.wide.ensures.0, c.pow2-p.ensures.is) (sym (get_d_bits_of a.s.now a.at (search rules))), search rules)
+    (rw (c.from.ensures, c.pow2-p.ensures.is) (sym (get_d_bits_of a.s.now a.at (search rules))), search rules)

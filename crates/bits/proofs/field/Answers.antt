@@ -16,20 +16,8 @@ loop-k-init c = (omega arith, refl, omega arith)
 pub overflow_mul-r : goal.overflow_mul-r
 overflow_mul-r c = let s : 2 ^ c.loop-k.k ≤ 2 ^ 12 = pow_mono {j = 12} (omega arith) in omega arith
 
-pub overflow_add-at : goal.overflow_add-at
-overflow_add-at c = omega arith
-
-pub bit-requires : goal.bit-requires
-bit-requires c = omega arith
-
 pub overflow_add-r : goal.overflow_add-r
 overflow_add-r c = let s : 2 ^ c.loop-k.k ≤ 2 ^ 12 = pow_mono {j = 12} (omega arith) in omega arith
-
-pub overflow_add-k : goal.overflow_add-k
-overflow_add-k c = omega arith
-
-pub loop-k-smaller : goal.loop-k-smaller
-loop-k-smaller c = omega arith
 
 pub loop-k-preserved : goal.loop-k-preserved
 loop-k-preserved c =

@@ -1,5 +1,4 @@
 -- `bits::put_bit` meets its contract. Assumes nothing.
-use native.Mathlib.Nat.{div-le_self}
 use native.Mathlib.Omega.{arith}
 use Prim.Native.Nat.{suc, ◌-◌, ◌+◌, ◌*◌, ◌/◌, ◌%◌, ◌^◌}
 use mathlib.Core.Path.{◌≡◌, ◌∙◌}
@@ -9,17 +8,11 @@ use Rattle.bits.proofs.Laws.{put_small, bits_mod, bits_put, bits_of_set}
 use borrow.Author.Rules.{rules}
 use Rattle.bits.proofs.put_bit.Goals as goal
 
-pub overflow_mul-n : goal.overflow_mul-n
-overflow_mul-n c = omega (arith, div-le_self c.wide-o.result c.pow2-p.result)
-
-pub overflow_add-n : goal.overflow_add-n
-overflow_add-n c = omega (arith, div-le_self c.wide-o.result c.pow2-p.result)
-
 pub overflow_mul-n-2 : goal.overflow_mul-n-2
-overflow_mul-n-2 c = let s = put_small c.wide-o.result c.pow2-p.result c.args.b (omega arith) in omega arith
+overflow_mul-n-2 c = let s = put_small c.from-o.result c.pow2-p.result c.args.b (omega arith) in omega arith
 
 pub overflow_add-n-2 : goal.overflow_add-n-2
-overflow_add-n-2 c = let s = put_small c.wide-o.result c.pow2-p.result c.args.b (omega arith) in omega arith
+overflow_add-n-2 c = let s = put_small c.from-o.result c.pow2-p.result c.args.b (omega arith) in omega arith
 
 pub returns : goal.returns
 returns c =
@@ -32,4 +25,4 @@ returns c =
     let w : at % 8 + suc k ≡ 8 = omega arith in
     let e : bits 8 (n % 256) ≡ set (bits 8 o) (at % 8) a.b = bits_mod 8 0 n ∙ rw w at (bits_put (at % 8) k o a.b (search rules)) in
     let q : 8 * (at / 8) + at % 8 ≡ at = omega arith in
-    rw (c.wide-o.ensures.0, c.pow2-p.ensures.is) (bits_of_set s (at / 8) (at % 8) (n % 256) a.b (search rules) (omega arith) e ∙ rw q)
+    rw (c.from-o.ensures, c.pow2-p.ensures.is) (bits_of_set s (at / 8) (at % 8) (n % 256) a.b (search rules) (omega arith) e ∙ rw q)

@@ -9,47 +9,17 @@ use Rattle.bits.specs.Rows.{pack, write_rows, rows_of, total}
 use Rattle.bits.proofs.RowLaws.{fewer, rows_turn, rows_none, sets_then, length_pack}
 use Rattle.bits.proofs.put_rows.Goals as goal
 
-pub overflow_add-step : goal.overflow_add-step
-overflow_add-step c = omega arith
-
-pub overflow_add-step-2 : goal.overflow_add-step-2
-overflow_add-step-2 c = omega arith
-
 pub loop-i-init : goal.loop-i-init
 loop-i-init c =
     let a = c.args in
     let e : length a.a.now - 0 ≡ length a.a.now = omega arith in
     rw e (omega arith, refl, c.requires.room, c.requires.small, refl)
 
-pub offset_bounds-a-i : goal.offset_bounds-a-i
-offset_bounds-a-i c = omega arith
-
-pub bounds-a-i : goal.bounds-a-i
-bounds-a-i c = omega arith
-
-pub offset_bounds-b-i : goal.offset_bounds-b-i
-offset_bounds-b-i c = omega arith
-
-pub bounds-b-i : goal.bounds-b-i
-bounds-b-i c = omega arith
-
-pub offset_bounds-c-i : goal.offset_bounds-c-i
-offset_bounds-c-i c = omega arith
-
-pub bounds-c-i : goal.bounds-c-i
-bounds-c-i c = omega arith
-
 pub put_row-requires : goal.put_row-requires
 put_row-requires c = let f = fewer (length c.args.a.now) c.loop-i.i (c.args.w0 + c.args.w1 + c.args.w2) (omega arith) in record { room = omega arith; small = omega arith; narrow0 = c.requires.narrow0; narrow1 = c.requires.narrow1; narrow2 = c.requires.narrow2 }
 
-pub overflow_add-i : goal.overflow_add-i
-overflow_add-i c = omega arith
-
 pub overflow_add-pos : goal.overflow_add-pos
 overflow_add-pos c = let f = fewer (length c.args.a.now) c.loop-i.i (c.args.w0 + c.args.w1 + c.args.w2) (omega arith) in omega arith
-
-pub loop-i-smaller : goal.loop-i-smaller
-loop-i-smaller c = omega arith
 
 pub loop-i-preserved : goal.loop-i-preserved
 unfolding total
@@ -64,9 +34,6 @@ loop-i-preserved c =
     let k : l.pos + length (pack ws row) ≡ l.pos + (a.w0 + a.w1 + a.w2) = omega (arith, length_pack ws row) in
     let m = sets_then (bits_of l.s) l.pos (l.pos + (a.w0 + a.w1 + a.w2)) (pack ws row) (write_rows ws (rows_of cols (l.i + 1) (length a.a.now - (l.i + 1)))) k in
     (omega arith, c.put_row.auto.s ∙ l.invariant.1, omega arith, omega arith, rw c.put_row.ensures (m ∙ rw (← t) l.invariant.4))
-
-pub shape_of-s : goal.shape_of-s
-shape_of-s c = omega arith
 
 pub returns : goal.returns
 returns c =

@@ -13,6 +13,3 @@ abbrev pub invariant-loop-i : goal.invariant-loop-i
 invariant-loop-i l =
     (l.i ≤ l.n) × (length l.s ≡ length l.initial.s) × (l.pos + (l.n - l.i) * l.step ≤ 8 * length l.initial.s) × (l.pos + (l.n - l.i) * l.step < 2 ^ 32)
     × (sets (bits_of l.s) l.pos (write_rows (l.w0 ∷ l.w1 ∷ l.w2 ∷ []) (rows_of (l.a ∷ l.b ∷ l.c ∷ []) l.i (l.n - l.i))) ≡ sets (bits_of l.initial.s) l.at (write_rows (l.w0 ∷ l.w1 ∷ l.w2 ∷ []) (rows_of (l.a ∷ l.b ∷ l.c ∷ []) 0 l.n)))
-
-abbrev pub decreases-loop-i : goal.decreases-loop-i
-decreases-loop-i l = l.n - l.i

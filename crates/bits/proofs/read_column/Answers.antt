@@ -19,20 +19,8 @@ loop-i-init c =
 pub field-requires : goal.field-requires
 field-requires c = let f = fewer c.args.n c.loop-i.i c.args.step (omega arith) in record { room = omega arith; narrow = omega arith; small = omega arith }
 
-pub offset_bounds-out-i : goal.offset_bounds-out-i
-offset_bounds-out-i c = omega arith
-
-pub bounds-out-i : goal.bounds-out-i
-bounds-out-i c = omega arith
-
-pub overflow_add-i : goal.overflow_add-i
-overflow_add-i c = omega arith
-
 pub overflow_add-pos : goal.overflow_add-pos
 overflow_add-pos c = let f = fewer c.args.n c.loop-i.i c.args.step (omega arith) in omega arith
-
-pub loop-i-smaller : goal.loop-i-smaller
-loop-i-smaller c = omega arith
 
 pub loop-i-preserved : goal.loop-i-preserved
 loop-i-preserved c =

@@ -13,6 +13,3 @@ invariant-loop-i l =
     (l.i ≤ l.n) × (length l.out ≡ length l.initial.out) × (l.pos + (l.n - l.i) * l.step ≤ 8 * length l.s) × (l.pos + (l.n - l.i) * l.step < 2 ^ 32)
     × (drop l.i l.out ≡ drop l.i l.initial.out)
     × (take l.i l.out ++ column_at (bits_of l.s) l.pos l.step l.w (l.n - l.i) ≡ column_at (bits_of l.s) l.at l.step l.w l.n)
-
-abbrev pub decreases-loop-i : goal.decreases-loop-i
-decreases-loop-i l = l.n - l.i

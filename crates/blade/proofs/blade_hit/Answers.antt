@@ -21,7 +21,7 @@ glue b0 b1 p q d w mp mq dp dq r d_is mp_is dp_is mq_is dq_is w_is r_is =
 pub returns : goal.returns
 returns c =
     let a = c.args in
-    glue a.b0 a.b1 a.p a.q c.minus-d.result c.minus-3.result c.minus.result c.minus-2.result
+    glue a.b0 a.b1 a.p a.q c.sub-d.result c.sub-3.result c.sub.result c.sub-2.result
     c.dot-dp.result c.dot-dq.result c.cross_at.result
-    c.minus-d.ensures c.minus.ensures c.dot-dp.ensures c.minus-2.ensures
-    c.dot-dq.ensures c.minus-3.ensures c.cross_at.ensures
+    c.sub-d.ensures c.sub.ensures c.dot-dp.ensures c.sub-2.ensures
+    c.dot-dq.ensures c.sub-3.ensures c.cross_at.ensures

@@ -18,5 +18,5 @@ pub returns : goal.returns
 unfolding of_bits of_int
 returns c =
     let x = c.args in
-    glue x.a x.b x.c c.plus.result c.plus-2.result c.plus-3.result c.over.result
-    c.plus.ensures c.plus-2.ensures c.plus-3.ensures c.over.ensures
+    glue x.a x.b x.c c.add.result c.add-2.result c.add-3.result c.div.result
+    c.add.ensures c.add-2.ensures c.add-3.ensures c.div.ensures

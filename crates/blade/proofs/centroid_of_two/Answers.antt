@@ -17,4 +17,4 @@ pub returns : goal.returns
 unfolding of_bits of_int
 returns c =
     let x = c.args in
-    glue x.a x.b c.plus.result c.plus-2.result c.over.result c.plus.ensures c.plus-2.ensures c.over.ensures
+    glue x.a x.b c.add.result c.add-2.result c.div.result c.add.ensures c.add-2.ensures c.div.ensures

@@ -1,26 +1,18 @@
--- `blade::clamp` meets its contract. Assumes nothing.
-use mathlib.Core.Path.{◌≡◌, ap, ◌∙◌}
-use lib.Ieee.{lt, of_bits}
+-- `blade::clamp` meets its contract: the library asks both bounds in turn, and 0 is not above 1. Assumes nothing.
+use mathlib.Core.Path.{◌≡◌, refl, ◌∙◌}
+use mathlib.Core.Bool.{Bool, true, false}
+use lib.Ieee.{Float, lt, of_bits}
+use Rattle.std.specs.Prelude.{cond}
+use Rattle.std.specs.Float.{float_clamp}
 use Rattle.float.specs.Numbers.{zero32, one}
 use Rattle.blade.specs.Blade.{clamp_low, clamp_high}
-use Rattle.float.proofs.Picks.{yes, no}
 use Rattle.blade.proofs.clamp.Goals as goal
-use Rattle.blade.proofs.clamp.Goals.{else-u, then-u}
 
-pub returns-then-u-2 : goal.returns-then-u-2
-unfolding of_bits
-returns-then-u-2 c =
-    let first : c.if-u.u ≡ clamp_low c.args.t = let t = c.args.t in
-    elim c.if-u.branch [
-      | then-u w ↦ w.u-is ∙ yes (lt t zero32) zero32 t w.if-u.true
-      | else-u w ↦ w.u-is ∙ no (lt t zero32) zero32 t w.if-u.false
-    ] in yes (lt one c.if-u.u) one c.if-u.u c.if-u-2.true ∙ ap clamp_high (first)
+in_turn : (t : Float) (low : Bool) → cond low zero32 (cond (lt one t) one t) ≡ clamp_high (cond low zero32 t)
+unfolding lt
+in_turn t true = refl
+in_turn t false = refl
 
-pub returns-else-u-2 : goal.returns-else-u-2
+pub returns : goal.returns
 unfolding of_bits
-returns-else-u-2 c =
-    let first : c.if-u.u ≡ clamp_low c.args.t = let t = c.args.t in
-    elim c.if-u.branch [
-      | then-u w ↦ w.u-is ∙ yes (lt t zero32) zero32 t w.if-u.true
-      | else-u w ↦ w.u-is ∙ no (lt t zero32) zero32 t w.if-u.false
-    ] in no (lt one c.if-u.u) one c.if-u.u c.if-u-2.false ∙ ap clamp_high (first)
+returns c = c.clamp.ensures.value ∙ in_turn c.args.t (lt c.args.t zero32)

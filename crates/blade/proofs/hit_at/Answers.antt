@@ -16,7 +16,7 @@ unfolding of_bits
 returns-then-s-dot c =
     let along : Float = let a = c.args in
     dot_of (minus_of (hit_point a.p a.w a.t) a.b0) a.d in
-    let is_along : c.dot-s.result ≡ along = c.dot-s.ensures ∙ ap (λ (m : Point). dot_of m c.args.d) c.minus.ensures in
+    let is_along : c.dot-s.result ≡ along = c.dot-s.ensures ∙ ap (λ (m : Point). dot_of m c.args.d) c.sub.ensures in
     let d = c.args.d in
     let t = c.args.t in
     let p = c.args.p in
@@ -31,7 +31,7 @@ unfolding of_bits
 returns c =
     let along : Float = let a = c.args in
     dot_of (minus_of (hit_point a.p a.w a.t) a.b0) a.d in
-    let is_along : c.dot-s.result ≡ along = c.dot-s.ensures ∙ ap (λ (m : Point). dot_of m c.args.d) c.minus.ensures in
+    let is_along : c.dot-s.result ≡ along = c.dot-s.ensures ∙ ap (λ (m : Point). dot_of m c.args.d) c.sub.ensures in
     let d = c.args.d in
     let t = c.args.t in
     let p = c.args.p in

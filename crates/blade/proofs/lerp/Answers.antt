@@ -15,4 +15,4 @@ pub returns : goal.returns
 unfolding of_bits
 returns c =
     let a = c.args in
-    glue a.p a.q c.times.result c.times-2.result c.plus.result a.t c.times.ensures c.times-2.ensures c.plus.ensures
+    glue a.p a.q c.mul.result c.mul-2.result c.add.result a.t c.mul.ensures c.mul-2.ensures c.add.ensures

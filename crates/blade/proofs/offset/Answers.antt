@@ -13,4 +13,4 @@ glue b0 b1 v d m r d_is m_is r_is = r_is ∙ ap (dot_of (normal_of d)) m_is ∙ 
 pub returns : goal.returns
 returns c =
     let a = c.args in
-    glue a.b0 a.b1 a.v c.minus-d.result c.minus.result c.dot.result c.minus-d.ensures c.minus.ensures c.dot.ensures
+    glue a.b0 a.b1 a.v c.sub-d.result c.sub.result c.dot.result c.sub-d.ensures c.sub.ensures c.dot.ensures

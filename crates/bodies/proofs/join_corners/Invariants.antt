@@ -14,6 +14,3 @@ use Rattle.bodies.proofs.join_corners.Given as goal
 -- `bodies::join_corners` meets its contract. The invariant: the first j corners of element i are joined to the first. Assumes nothing.
 abbrev pub invariant-loop-j : goal.invariant-loop-j
 invariant-loop-j l = (l.j ≤ l.k) × (length l.parent ≡ length l.initial.parent) × Tied (Link l.k l.verts (l.i * l.k + l.j)) l.parent
-
-abbrev pub decreases-loop-j : goal.decreases-loop-j
-decreases-loop-j l = l.k - l.j

@@ -12,6 +12,3 @@ use Rattle.bodies.proofs.join_each.Given as goal
 -- `bodies::join_each` meets its contract. The invariant: the corners of the elements below i are joined. Assumes nothing.
 abbrev pub invariant-loop-i : goal.invariant-loop-i
 invariant-loop-i l = (l.i ≤ l.n) × (length l.parent ≡ length l.initial.parent) × Tied (Link l.k l.verts (l.i * l.k)) l.parent
-
-abbrev pub decreases-loop-i : goal.decreases-loop-i
-decreases-loop-i l = l.n - l.i

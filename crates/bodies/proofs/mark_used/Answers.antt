@@ -4,6 +4,7 @@ use native.Mathlib.Omega.{arith}
 use mathlib.Core.Path.{◌≡◌, refl, ◌∙◌, subst}
 use Prim.Native.Nat.{ℕ, ◌*◌, ◌<◌, ◌≤◌, ◌-◌}
 use lib.ListN.{length, get_or, take, length-set}
+use Rattle.std.proofs.lemmas.List.{get_or-replicate}
 use Rattle.bodies.specs.Tables.{Marked}
 use Rattle.bodies.proofs.Marks.{marked_none, marked_corner, used_marked}
 use Rattle.bodies.proofs.mark_used.Goals as goal
@@ -15,8 +16,8 @@ overflow_mul-total c =
 
 pub loop-t-init : goal.loop-t-init
 loop-t-init c =
-    let K = c.clear in
-    (search rules, refl, marked_none K.new.marks K.ensures)
+    let K = c.fill in
+    (search rules, refl, marked_none K.new.self (λ x h. rw (K.ensures.after (λ y e. e)) (get_or-replicate (length c.args.used.now) x 0 0 (omega (arith, K.ensures.len)))))
 
 pub offset_bounds-verts-t : goal.offset_bounds-verts-t
 offset_bounds-verts-t c =
@@ -33,8 +34,8 @@ offset_bounds-used-x c =
     let A = c.args in
     let P = c.requires in
     let L = c.loop-t in
-    let K = c.clear in
-    let h : get_or A.verts.now L.t 0 < length L.used = omega (arith, P.below L.t (search rules), L.invariant.1, K.auto.marks) in
+    let K = c.fill in
+    let h : get_or A.verts.now L.t 0 < length L.used = omega (arith, P.below L.t (search rules), L.invariant.1, K.auto.self) in
     omega arith
 
 pub bounds-used-x : goal.bounds-used-x
@@ -42,8 +43,8 @@ bounds-used-x c =
     let A = c.args in
     let P = c.requires in
     let L = c.loop-t in
-    let K = c.clear in
-    let h : get_or A.verts.now L.t 0 < length L.used = omega (arith, P.below L.t (search rules), L.invariant.1, K.auto.marks) in
+    let K = c.fill in
+    let h : get_or A.verts.now L.t 0 < length L.used = omega (arith, P.below L.t (search rules), L.invariant.1, K.auto.self) in
     h
 
 pub loop-t-preserved : goal.loop-t-preserved
@@ -51,8 +52,8 @@ loop-t-preserved c =
     let A = c.args in
     let P = c.requires in
     let L = c.loop-t in
-    let K = c.clear in
-    let h : get_or A.verts.now L.t 0 < length L.used = omega (arith, P.below L.t (search rules), L.invariant.1, K.auto.marks) in (
+    let K = c.fill in
+    let h : get_or A.verts.now L.t 0 < length L.used = omega (arith, P.below L.t (search rules), L.invariant.1, K.auto.self) in (
       omega arith,
       length-set L.used (get_or A.verts.now L.t 0) 1 ∙ L.invariant.1,
       marked_corner L.t A.verts.now L.used (omega (arith, P.room)) h L.invariant.2,
@@ -61,8 +62,8 @@ loop-t-preserved c =
 pub shape_of-used : goal.shape_of-used
 shape_of-used c =
     let L = c.loop-t in
-    let K = c.clear in
-    L.invariant.1 ∙ K.auto.marks
+    let K = c.fill in
+    L.invariant.1 ∙ K.auto.self
 
 pub returns : goal.returns
 returns c =

@@ -11,6 +11,3 @@ use Rattle.bodies.proofs.mark_used.Given as goal
 -- `bodies::mark_used` meets its contract. The invariant: the first t corners are marked, and no other particle. Assumes nothing.
 abbrev pub invariant-loop-t : goal.invariant-loop-t
 invariant-loop-t l = (l.t ≤ l.n * l.k) × (length l.used ≡ length l.initial.used) × Marked (take l.t l.verts) l.used
-
-abbrev pub decreases-loop-t : goal.decreases-loop-t
-decreases-loop-t l = l.n * l.k - l.t

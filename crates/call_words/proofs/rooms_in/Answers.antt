@@ -7,18 +7,6 @@ use Rattle.call_words.proofs.rooms_in.Goals as goal
 pub returns-then-rooms-ne16 : goal.returns-then-rooms-ne16
 returns-then-rooms-ne16 c = (none_limited _, λ e. absurd (c.if-rooms-ne16.true e))
 
-pub word_at-requires : goal.word_at-requires
-word_at-requires c = omega (arith, c.if-rooms-ne16.false)
-
-pub word_at-requires-2 : goal.word_at-requires-2
-word_at-requires-2 c = omega (arith, c.if-rooms-ne16.false)
-
-pub word_at-requires-3 : goal.word_at-requires-3
-word_at-requires-3 c = omega (arith, c.if-rooms-ne16.false)
-
-pub word_at-requires-4 : goal.word_at-requires-4
-word_at-requires-4 c = omega (arith, c.if-rooms-ne16.false)
-
 pub returns : goal.returns
 returns c =
     let made = rooms_made _ _ _ _ _ _ _ _ _ _ _ c.word_at.ensures.0 c.word_at-2.ensures.0 c.word_at-3.ensures.0 c.word_at-4.ensures.0 c.least.ensures c.least-2.ensures c.least-3.ensures c.least-4.ensures c.least-5.ensures in

@@ -6,20 +6,8 @@ use Rattle.columns.proofs.next_marked.Goals as goal
 pub loop-i-init : goal.loop-i-init
 loop-i-init c = pass_start _ _ _ (omega arith)
 
-pub offset_bounds-mask-i : goal.offset_bounds-mask-i
-offset_bounds-mask-i c = omega arith
-
-pub bounds-mask-i : goal.bounds-mask-i
-bounds-mask-i c = omega arith
-
 pub returns-then-mask-i-eq1 : goal.returns-then-mask-i-eq1
 returns-then-mask-i-eq1 c = pass_stop _ _ _ _ c.loop-i.invariant c.loop-i-test.true c.if-mask-i-eq1.true
-
-pub overflow_add-i : goal.overflow_add-i
-overflow_add-i c = omega arith
-
-pub loop-i-smaller : goal.loop-i-smaller
-loop-i-smaller c = omega arith
 
 pub loop-i-preserved : goal.loop-i-preserved
 loop-i-preserved c = pass_more _ _ _ _ c.loop-i.invariant c.loop-i-test.true c.if-mask-i-eq1.false

@@ -27,12 +27,6 @@ pub overflow_add-o-in-loop-c : goal.overflow_add-o-in-loop-c
 overflow_add-o-in-loop-c c =
     let fits : c.loop-c.o + c.args.size ≤ length c.args.s.now = look_fits _ _ _ _ _ c.requires _ _ c.loop-c.invariant c.loop-c-test.true in omega (arith, fits)
 
-pub overflow_add-c : goal.overflow_add-c
-overflow_add-c c = omega arith
-
-pub loop-c-smaller : goal.loop-c-smaller
-loop-c-smaller c = omega arith
-
 pub loop-c-preserved : goal.loop-c-preserved
 loop-c-preserved c = look_more _ _ _ _ _ c.requires _ _ c.loop-c.invariant c.loop-c-test.true c.if-s-o.false
 

@@ -4,19 +4,6 @@ use native.Mathlib.Omega.{arith}
 use borrow.Author.Rules.{rules}
 use Rattle.crossmarks.proofs.note_across.Goals as goal
 
--- `crossmarks::note_across` meets its contract. Assumes nothing.
-pub offset_bounds-offsets-x : goal.offset_bounds-offsets-x
-offset_bounds-offsets-x c = omega (arith, c.requires.1.long)
-
-pub bounds-offsets-x : goal.bounds-offsets-x
-bounds-offsets-x c = omega (arith, c.requires.1.long)
-
-pub offset_bounds-offsets-y : goal.offset_bounds-offsets-y
-offset_bounds-offsets-y c = omega (arith, c.requires.2.long)
-
-pub bounds-offsets-y : goal.bounds-offsets-y
-bounds-offsets-y c = omega (arith, c.requires.2.long)
-
 pub returns-then-beside : goal.returns-then-beside
 returns-then-beside c = let P = c.requires in let A = c.args in pair_beside A.rule A.b0 A.b1 A.points.now A.offsets.now A.x A.y _ _ _ P.1 P.2 c.beside.ensures c.if-beside.true
 

@@ -13,41 +13,8 @@ use Rattle.crossmarks.proofs.note_straps.Goals.{else-ends-size-eq1, then-ends-si
 pub loop-i-init : goal.loop-i-init
 loop-i-init c = (omega arith, refl, straps_none _ _ _ _ _, omega arith)
 
-pub overflow_mul-size : goal.overflow_mul-size
-overflow_mul-size c = omega (arith, c.requires.columns)
-
-pub overflow_add-size : goal.overflow_add-size
-overflow_add-size c = omega (arith, c.requires.columns)
-
-pub offset_bounds-ends-size : goal.offset_bounds-ends-size
-offset_bounds-ends-size c = omega (arith, c.requires.columns)
-
-pub bounds-ends-size : goal.bounds-ends-size
-bounds-ends-size c = omega (arith, c.requires.columns)
-
-pub offset_bounds-ends-i : goal.offset_bounds-ends-i
-offset_bounds-ends-i c = omega (arith, c.requires.columns)
-
-pub bounds-ends-i : goal.bounds-ends-i
-bounds-ends-i c = omega (arith, c.requires.columns)
-
-pub overflow_add-size-then-ends-size-eq1 : goal.overflow_add-size-then-ends-size-eq1
-overflow_add-size-then-ends-size-eq1 c = omega (arith, c.requires.columns)
-
-pub offset_bounds-ends-size-then-ends-size-eq1 : goal.offset_bounds-ends-size-then-ends-size-eq1
-offset_bounds-ends-size-then-ends-size-eq1 c = omega (arith, c.requires.columns)
-
-pub bounds-ends-size-then-ends-size-eq1 : goal.bounds-ends-size-then-ends-size-eq1
-bounds-ends-size-then-ends-size-eq1 c = omega (arith, c.requires.columns)
-
 pub note_across-m-requires : goal.note_across-m-requires
 note_across-m-requires c = room_of_strap _ _ _ _ _ c.loop-i.i _ c.requires c.loop-i-test.true c.loop-i.invariant.3
-
-pub overflow_add-i : goal.overflow_add-i
-overflow_add-i c = omega arith
-
-pub loop-i-smaller : goal.loop-i-smaller
-loop-i-smaller c = omega arith
 
 pub loop-i-preserved : goal.loop-i-preserved
 loop-i-preserved c =

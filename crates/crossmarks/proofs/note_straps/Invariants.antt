@@ -13,6 +13,3 @@ use Rattle.crossmarks.proofs.note_straps.Given as goal
 abbrev pub invariant-loop-i : goal.invariant-loop-i
 invariant-loop-i l =
     (l.i ≤ l.e) × (length l.log ≡ length l.initial.log) × Noted (strap_marks (blade_by l.rule l.b0 l.b1) l.points l.i l.ends) l.n l.initial.log l.log l.m × (l.m ≤ l.n + l.i)
-
-abbrev pub decreases-loop-i : goal.decreases-loop-i
-decreases-loop-i l = l.e - l.i

@@ -12,6 +12,3 @@ use Rattle.crossmarks.proofs.note_triangles.Given as goal
 abbrev pub invariant-loop-i : goal.invariant-loop-i
 invariant-loop-i l =
     (l.i ≤ l.t) × (length l.log ≡ length l.initial.log) × Noted (triangle_marks (blade_by l.rule l.b0 l.b1) l.points l.i l.corners) l.n l.initial.log l.log l.m × (l.m ≤ l.n + 3 * l.i)
-
-abbrev pub decreases-loop-i : goal.decreases-loop-i
-decreases-loop-i l = l.t - l.i

@@ -11,21 +11,6 @@ use Rattle.crossmarks.proofs.read_offsets.Goals as goal
 pub loop-w-init : goal.loop-w-init
 loop-w-init c = (omega arith, refl, offsets_none _ _ _ _)
 
-pub place-requires : goal.place-requires
-place-requires c = omega (arith, c.requires.0)
-
-pub offset_bounds-offsets-w : goal.offset_bounds-offsets-w
-offset_bounds-offsets-w c = omega (arith, c.requires.1, c.loop-w.invariant.1)
-
-pub bounds-offsets-w : goal.bounds-offsets-w
-bounds-offsets-w c = omega (arith, c.requires.1, c.loop-w.invariant.1)
-
-pub overflow_add-w : goal.overflow_add-w
-overflow_add-w c = omega arith
-
-pub loop-w-smaller : goal.loop-w-smaller
-loop-w-smaller c = omega arith
-
 pub loop-w-preserved : goal.loop-w-preserved
 loop-w-preserved c =
     let L = c.loop-w in

@@ -11,6 +11,3 @@ use Rattle.crossmarks.proofs.read_offsets.Given as goal
 -- `crossmarks::read_offsets` meets its contract. The invariant: the offsets so far stand in the table. Assumes nothing.
 abbrev pub invariant-loop-w : goal.invariant-loop-w
 invariant-loop-w l = (l.w ≤ l.p) × (length l.offsets ≡ length l.initial.offsets) × OffsetsAre l.b0 l.b1 l.points l.offsets l.w
-
-abbrev pub decreases-loop-w : goal.decreases-loop-w
-decreases-loop-w l = l.p - l.w

@@ -7,15 +7,6 @@ use Rattle.differing.proofs.write_differences.Goals as goal
 pub put_all-l-requires : goal.put_all-l-requires
 put_all-l-requires c = c.requires
 
-pub put_number-number-requires : goal.put_number-number-requires
-put_number-number-requires c = tt
-
-pub put_byte-end-requires : goal.put_byte-end-requires
-put_byte-end-requires c = tt
-
-pub finish-requires : goal.finish-requires
-finish-requires c = tt
-
 pub shape_of-out : goal.shape_of-out
 shape_of-out c = c.finish.auto.out ∙ (c.put_byte-end.auto.out ∙ (c.put_number-number.auto.out ∙ c.put_all-l.auto.out))
 

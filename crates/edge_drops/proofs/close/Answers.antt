@@ -3,15 +3,8 @@ use Rattle.edge_drops.proofs.PartedLaws.{listing_room, closed_all, closed_none}
 use native.Mathlib.Omega.{arith}
 use Rattle.edge_drops.proofs.close.Goals as goal
 
--- `edge_drops::close` meets its contract: the listed edges go as `drop_listed` has them go (proofs/PartedLaws.antt). Assumes nothing.
-pub bounds-list-2048 : goal.bounds-list-2048
-bounds-list-2048 c = omega (arith, c.requires.0.long)
-
 pub returns-then-s-eq0 : goal.returns-then-s-eq0
 returns-then-s-eq0 c = let A = c.args in closed_none A.left A.ends.now A.lengths.now A.list.now A.table.now c.requires.1 c.if-s-eq0.true
-
-pub overflow_add-left : goal.overflow_add-left
-overflow_add-left c = omega (arith, c.requires.0.few)
 
 pub drop_listed-requires : goal.drop_listed-requires
 drop_listed-requires c = (listing_room c.requires.0, c.requires.1)

@@ -6,17 +6,8 @@ use Rattle.edge_drops.proofs.DropLaws.{Closing, closing_start, closing_read, clo
 use Rattle.edge_drops.proofs.PartedLaws.{listing_room, rows_closed}
 use Rattle.edge_drops.proofs.close_rows.Goals as goal
 
-pub bounds-list-2048 : goal.bounds-list-2048
-bounds-list-2048 c = omega (arith, c.requires.long)
-
-pub overflow_add-m : goal.overflow_add-m
-overflow_add-m c = omega (arith, c.requires.few)
-
 pub loop-more-init : goal.loop-more-init
 loop-more-init c = let A = c.args in closing_start A.list.now _ _ A.ends.now A.lengths.now (listing_room c.requires)
-
-pub overflow_sub-more : goal.overflow_sub-more
-overflow_sub-more c = omega (arith, c.loop-more-test.true)
 
 pub offset_bounds-list-more : goal.offset_bounds-list-more
 offset_bounds-list-more c = let A = c.args in omega (arith, closing_read A.list.now _ _ A.ends.now A.lengths.now (listing_room c.requires) _ _ _ _ c.loop-more.invariant c.loop-more-test.true, c.well_formed)
@@ -29,12 +20,6 @@ close_row-requires c = let A = c.args in closing_room A.list.now _ _ A.ends.now 
 
 pub overflow_sub-m : goal.overflow_sub-m
 overflow_sub-m c = let A = c.args in omega (arith, (closing_room A.list.now _ _ A.ends.now A.lengths.now (listing_room c.requires) _ _ _ _ c.loop-more.invariant c.loop-more-test.true).here)
-
-pub overflow_sub-more-in-loop-more : goal.overflow_sub-more-in-loop-more
-overflow_sub-more-in-loop-more c = omega (arith, c.loop-more-test.true)
-
-pub loop-more-smaller : goal.loop-more-smaller
-loop-more-smaller c = omega (arith, c.loop-more-test.true)
 
 pub loop-more-preserved : goal.loop-more-preserved
 loop-more-preserved c = let A = c.args in let D = c.close_row in closing_more A.list.now _ _ A.ends.now A.lengths.now (listing_room c.requires) _ _ _ _ c.loop-more.invariant c.loop-more-test.true _ _ D.ensures.edges D.auto.ends D.auto.lengths

@@ -9,6 +9,3 @@ use Rattle.edge_drops.proofs.close_rows.Given as goal
 -- `edge_drops::close_rows` meets its contract: the removals are `Closing` of proofs/DropLaws.antt. Assumes nothing.
 abbrev pub invariant-loop-more : goal.invariant-loop-more
 invariant-loop-more l = Closing l.list (l.left + listed l.list) (listed l.list) l.initial.ends l.initial.lengths l.ends l.lengths l.m l.more
-
-abbrev pub decreases-loop-more : goal.decreases-loop-more
-decreases-loop-more l = l.more

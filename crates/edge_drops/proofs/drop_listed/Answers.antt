@@ -9,23 +9,11 @@ use Rattle.edge_drops.proofs.drop_listed.Goals as goal
 pub returns-then-s-eq0 : goal.returns-then-s-eq0
 returns-then-s-eq0 c = let A = c.args in let P = c.requires in dropping_done A.list.now A.n A.s A.ends.now A.lengths.now A.table.now P.0 _ _ _ _ _ (dropping_start A.list.now A.n A.s A.ends.now A.lengths.now A.table.now P.0 P.1) c.if-s-eq0.true
 
-pub overflow_sub-s : goal.overflow_sub-s
-overflow_sub-s c = omega (arith, c.if-s-eq0.false)
-
-pub offset_bounds-list-s : goal.offset_bounds-list-s
-offset_bounds-list-s c = omega (arith, c.if-s-eq0.false, c.requires.0.few, c.well_formed)
-
-pub bounds-list-s : goal.bounds-list-s
-bounds-list-s c = omega (arith, c.if-s-eq0.false, c.requires.0.few)
-
 pub drop_row-requires : goal.drop_row-requires
 drop_row-requires c = let A = c.args in let P = c.requires in let h : 0 < A.s = omega (arith, c.if-s-eq0.false) in dropping_room A.list.now A.n A.s A.ends.now A.lengths.now A.table.now P.0 _ _ _ _ _ (dropping_start A.list.now A.n A.s A.ends.now A.lengths.now A.table.now P.0 P.1) h
 
 pub overflow_sub-n : goal.overflow_sub-n
 overflow_sub-n c = let A = c.args in let P = c.requires in let h : 0 < A.s = omega (arith, c.if-s-eq0.false) in omega (arith, (dropping_room A.list.now A.n A.s A.ends.now A.lengths.now A.table.now P.0 _ _ _ _ _ (dropping_start A.list.now A.n A.s A.ends.now A.lengths.now A.table.now P.0 P.1) h).here)
-
-pub overflow_sub-s-2 : goal.overflow_sub-s-2
-overflow_sub-s-2 c = omega (arith, c.if-s-eq0.false)
 
 pub drop_rest-requires : goal.drop_rest-requires
 drop_rest-requires c = let A = c.args in let P = c.requires in let h : 0 < A.s = omega (arith, c.if-s-eq0.false) in let D = c.drop_row in (rest_room A.list.now A.n A.s A.ends.now A.lengths.now A.table.now P.0 h _ _ D.auto.ends D.auto.lengths, D.ensures.1)

@@ -6,9 +6,6 @@ use Rattle.edge_drops.proofs.drop_rest.Goals as goal
 pub loop-more-init : goal.loop-more-init
 loop-more-init c = dropping_start _ _ _ _ _ _ c.requires.0 c.requires.1
 
-pub overflow_sub-more : goal.overflow_sub-more
-overflow_sub-more c = omega (arith, c.loop-more-test.true)
-
 pub offset_bounds-list-more : goal.offset_bounds-list-more
 offset_bounds-list-more c = let A = c.args in let P = c.requires in let G = c.loop-more.invariant in omega (arith, dropping_read A.list.now A.n A.s A.ends.now A.lengths.now A.table.now P.0 _ _ _ _ _ G c.loop-more-test.true, c.well_formed)
 
@@ -20,12 +17,6 @@ drop_row-requires c = let A = c.args in let P = c.requires in let G = c.loop-mor
 
 pub overflow_sub-left : goal.overflow_sub-left
 overflow_sub-left c = let A = c.args in let P = c.requires in let G = c.loop-more.invariant in omega (arith, (dropping_room A.list.now A.n A.s A.ends.now A.lengths.now A.table.now P.0 _ _ _ _ _ G c.loop-more-test.true).here)
-
-pub overflow_sub-more-in-loop-more : goal.overflow_sub-more-in-loop-more
-overflow_sub-more-in-loop-more c = omega (arith, c.loop-more-test.true)
-
-pub loop-more-smaller : goal.loop-more-smaller
-loop-more-smaller c = omega (arith, c.loop-more-test.true)
 
 pub loop-more-preserved : goal.loop-more-preserved
 loop-more-preserved c = let A = c.args in let P = c.requires in let G = c.loop-more.invariant in let D = c.drop_row in dropping_more A.list.now A.n A.s A.ends.now A.lengths.now A.table.now P.0 _ _ _ _ _ G c.loop-more-test.true _ _ _ D.ensures.0 D.ensures.1 D.auto.ends D.auto.lengths D.auto.table

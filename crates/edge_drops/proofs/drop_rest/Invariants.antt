@@ -6,6 +6,3 @@ use Rattle.edge_drops.proofs.drop_rest.Given as goal
 -- `edge_drops::drop_rest` meets its contract: the removals are `Dropping` of proofs/DropLaws.antt. Assumes nothing.
 abbrev pub invariant-loop-more : goal.invariant-loop-more
 invariant-loop-more l = Dropping l.list l.n l.s l.initial.ends l.initial.lengths l.initial.table l.ends l.lengths l.table l.left l.more
-
-abbrev pub decreases-loop-more : goal.decreases-loop-more
-decreases-loop-more l = l.more

@@ -9,12 +9,6 @@ use Rattle.elements.proofs.all_marked.Goals as goal
 pub loop-i-init : goal.loop-i-init
 loop-i-init c = (omega arith, refl)
 
-pub offset_bounds-row-i : goal.offset_bounds-row-i
-offset_bounds-row-i c = omega arith
-
-pub bounds-row-i : goal.bounds-row-i
-bounds-row-i c = omega arith
-
 pub offset_bounds-marks-w : goal.offset_bounds-marks-w
 offset_bounds-marks-w c = omega (arith, c.requires c.loop-i.i (omega arith))
 
@@ -25,12 +19,6 @@ pub returns-then-marks-w-ne1 : goal.returns-then-marks-w-ne1
 returns-then-marks-w-ne1 c = let L = c.loop-i in
     let A = c.args in
     sym (all_stop (marked A.marks.now) A.row.now L.i (omega arith) (ne_eqb _ _ c.if-marks-w-ne1.true)) ∙ L.invariant.1
-
-pub overflow_add-i : goal.overflow_add-i
-overflow_add-i c = omega arith
-
-pub loop-i-smaller : goal.loop-i-smaller
-loop-i-smaller c = omega arith
 
 pub loop-i-preserved : goal.loop-i-preserved
 loop-i-preserved c = let L = c.loop-i in

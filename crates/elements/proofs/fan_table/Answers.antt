@@ -18,18 +18,9 @@ pub offset_bounds-verts-a : goal.offset_bounds-verts-a
 offset_bounds-verts-a c =
     let reads_fit : c.loop-i.a + c.args.k ≤ length c.args.verts.now = fanning_reads _ _ _ _ _ _ _ _ _ _ _ _ _ _ _ _ c.loop-i.invariant c.loop-i-test.true c.requires.verts in omega (arith, reads_fit)
 
-pub slice_bounds-stands_in-count : goal.slice_bounds-stands_in-count
-slice_bounds-stands_in-count c = omega arith
-
-pub slice_bounds-stands_in-start : goal.slice_bounds-stands_in-start
-slice_bounds-stands_in-start c = omega arith
-
 pub slice_bounds-stands_in-end : goal.slice_bounds-stands_in-end
 slice_bounds-stands_in-end c =
     let reads_fit : c.loop-i.a + c.args.k ≤ length c.args.verts.now = fanning_reads _ _ _ _ _ _ _ _ _ _ _ _ _ _ _ _ c.loop-i.invariant c.loop-i-test.true c.requires.verts in reads_fit
-
-pub stands_in-requires : goal.stands_in-requires
-stands_in-requires c = omega arith
 
 pub overflow_add-e : goal.overflow_add-e
 overflow_add-e c =
@@ -39,58 +30,13 @@ pub offset_bounds-verts-a-then-stands_in : goal.offset_bounds-verts-a-then-stand
 offset_bounds-verts-a-then-stands_in c =
     let reads_fit : c.loop-i.a + c.args.k ≤ length c.args.verts.now = fanning_reads _ _ _ _ _ _ _ _ _ _ _ _ _ _ _ _ c.loop-i.invariant c.loop-i-test.true c.requires.verts in omega (arith, reads_fit)
 
-pub slice_bounds-copy_usize-count : goal.slice_bounds-copy_usize-count
-slice_bounds-copy_usize-count c = omega arith
-
-pub slice_bounds-copy_usize-start : goal.slice_bounds-copy_usize-start
-slice_bounds-copy_usize-start c = omega arith
-
-pub slice_bounds-copy_usize-end : goal.slice_bounds-copy_usize-end
-slice_bounds-copy_usize-end c =
+pub slice_bounds-copy-end : goal.slice_bounds-copy-end
+slice_bounds-copy-end c =
     let reads_fit : c.loop-i.a + c.args.k ≤ length c.args.verts.now = fanning_reads _ _ _ _ _ _ _ _ _ _ _ _ _ _ _ _ c.loop-i.invariant c.loop-i-test.true c.requires.verts in reads_fit
 
 pub offset_bounds-fan_verts-o : goal.offset_bounds-fan_verts-o
 offset_bounds-fan_verts-o c =
     let writes_fit : c.loop-i.o + c.args.k ≤ length c.loop-i.fan_verts = fanning_writes _ _ _ _ _ _ _ _ _ _ _ _ _ _ _ _ c.loop-i.invariant c.loop-i-test.true c.requires.fan_verts in omega (arith, writes_fit)
-
-pub slice_bounds-copy_usize-count-then-stands_in : goal.slice_bounds-copy_usize-count-then-stands_in
-slice_bounds-copy_usize-count-then-stands_in c = omega arith
-
-pub copy_usize-requires : goal.copy_usize-requires
-copy_usize-requires c = omega (arith, c.copy_usize-arg-then-stands_in-1.given.1, c.copy_usize-arg-1.given.1)
-
-pub offset_bounds-numbers-i : goal.offset_bounds-numbers-i
-offset_bounds-numbers-i c = omega arith
-
-pub bounds-numbers-i : goal.bounds-numbers-i
-bounds-numbers-i c = omega arith
-
-pub offset_bounds-fan_numbers-r : goal.offset_bounds-fan_numbers-r
-offset_bounds-fan_numbers-r c = omega arith
-
-pub bounds-fan_numbers-r : goal.bounds-fan_numbers-r
-bounds-fan_numbers-r c = omega arith
-
-pub offset_bounds-measures-i : goal.offset_bounds-measures-i
-offset_bounds-measures-i c = omega arith
-
-pub bounds-measures-i : goal.bounds-measures-i
-bounds-measures-i c = omega arith
-
-pub offset_bounds-fan_measures-r : goal.offset_bounds-fan_measures-r
-offset_bounds-fan_measures-r c = omega arith
-
-pub bounds-fan_measures-r : goal.bounds-fan_measures-r
-bounds-fan_measures-r c = omega arith
-
-pub overflow_add-r : goal.overflow_add-r
-overflow_add-r c = omega arith
-
-pub overflow_add-i : goal.overflow_add-i
-overflow_add-i c = omega arith
-
-pub loop-i-smaller : goal.loop-i-smaller
-loop-i-smaller c = omega arith
 
 pub loop-i-preserved : goal.loop-i-preserved
 loop-i-preserved c =
@@ -99,7 +45,7 @@ loop-i-preserved c =
     let said = sym c.stands_in.ensures in
     elim c.if-stands_in.branch [
       | then-stands_in w ↦ rw (w.fan_numbers-is, w.fan_verts-is, w.fan_measures-is, w.r-is, w.o-is)
-          (fanning_take _ _ _ _ _ _ _ _ _ _ _ _ _ _ _ _ inv c.loop-i-test.true _ (writes_fit) (reads_fit) w.copy_usize.auto.dst w.copy_usize.ensures (said ∙ w.if-stands_in.true) (omega arith) (omega arith))
+          (fanning_take _ _ _ _ _ _ _ _ _ _ _ _ _ _ _ _ inv c.loop-i-test.true _ (writes_fit) (reads_fit) w.copy.auto.dst w.copy.ensures (said ∙ w.if-stands_in.true) (omega arith) (omega arith))
       | else-stands_in w ↦ rw (w.fan_numbers-is, w.fan_verts-is, w.fan_measures-is, w.r-is, w.o-is) (fanning_skip _ _ _ _ _ _ _ _ _ _ _ _ _ _ _ _ inv c.loop-i-test.true (said ∙ w.if-stands_in.false))
     ]
 

@@ -17,27 +17,12 @@ pub offset_bounds-verts-a : goal.offset_bounds-verts-a
 offset_bounds-verts-a c =
     let reads_fit : c.loop-i.a + c.args.k ≤ length c.args.verts.now = seeking_reads _ _ _ _ _ _ _ c.loop-i.invariant c.loop-i-test.true c.requires in omega (arith, reads_fit)
 
-pub slice_bounds-both_in-count : goal.slice_bounds-both_in-count
-slice_bounds-both_in-count c = omega arith
-
-pub slice_bounds-both_in-start : goal.slice_bounds-both_in-start
-slice_bounds-both_in-start c = omega arith
-
 pub slice_bounds-both_in-end : goal.slice_bounds-both_in-end
 slice_bounds-both_in-end c =
     let reads_fit : c.loop-i.a + c.args.k ≤ length c.args.verts.now = seeking_reads _ _ _ _ _ _ _ c.loop-i.invariant c.loop-i-test.true c.requires in reads_fit
 
-pub both_in-requires : goal.both_in-requires
-both_in-requires c = omega arith
-
 pub returns-then-both_in : goal.returns-then-both_in
 returns-then-both_in c = seeking_found _ _ _ _ _ _ _ c.loop-i.invariant c.loop-i-test.true (sym c.both_in.ensures ∙ c.if-both_in.true)
-
-pub overflow_add-i : goal.overflow_add-i
-overflow_add-i c = omega arith
-
-pub loop-i-smaller : goal.loop-i-smaller
-loop-i-smaller c = omega arith
 
 pub loop-i-preserved : goal.loop-i-preserved
 loop-i-preserved c = seeking_more _ _ _ _ _ _ _ c.loop-i.invariant c.loop-i-test.true (sym c.both_in.ensures ∙ c.if-both_in.false)

@@ -10,26 +10,8 @@ returns-then-t-ne0 c = kind_triangles _ _ _ c.if-t-ne0.true
 pub loop-i-init : goal.loop-i-init
 loop-i-init c = (omega arith, λ k h. absurd (omega arith))
 
-pub overflow_mul-c : goal.overflow_mul-c
-overflow_mul-c c = omega arith
-
-pub overflow_add-c : goal.overflow_add-c
-overflow_add-c c = omega arith
-
-pub offset_bounds-ends-c : goal.offset_bounds-ends-c
-offset_bounds-ends-c c = omega arith
-
-pub bounds-ends-c : goal.bounds-ends-c
-bounds-ends-c c = omega arith
-
 pub returns-then-ends-c-eq1 : goal.returns-then-ends-c-eq1
 returns-then-ends-c-eq1 c = kind_straps _ _ _ _ c.if-t-ne0.false c.loop-i-test.true c.if-ends-c-eq1.true
-
-pub overflow_add-i : goal.overflow_add-i
-overflow_add-i c = omega arith
-
-pub loop-i-smaller : goal.loop-i-smaller
-loop-i-smaller c = omega arith
 
 pub loop-i-preserved : goal.loop-i-preserved
 loop-i-preserved c = (omega arith, below_more _ _ c.loop-i.invariant.1 c.if-ends-c-eq1.false)

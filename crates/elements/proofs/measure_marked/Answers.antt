@@ -20,30 +20,12 @@ pub offset_bounds-verts-a : goal.offset_bounds-verts-a
 offset_bounds-verts-a c =
     let reads_fit : c.loop-i.a + c.args.k ≤ length c.args.verts.now = passing_reads _ _ _ _ _ _ _ _ c.loop-i.invariant c.loop-i-test.true c.requires.verts_long in omega (arith, reads_fit)
 
-pub slice_bounds-all_marked-count : goal.slice_bounds-all_marked-count
-slice_bounds-all_marked-count c = omega arith
-
-pub slice_bounds-all_marked-start : goal.slice_bounds-all_marked-start
-slice_bounds-all_marked-start c = omega arith
-
 pub slice_bounds-all_marked-end : goal.slice_bounds-all_marked-end
 slice_bounds-all_marked-end c =
     let reads_fit : c.loop-i.a + c.args.k ≤ length c.args.verts.now = passing_reads _ _ _ _ _ _ _ _ c.loop-i.invariant c.loop-i-test.true c.requires.verts_long in reads_fit
 
 pub all_marked-requires : goal.all_marked-requires
 all_marked-requires c = row_below _ _ _ _ _ _ c.requires.verts_below c.loop-i-test.true c.loop-i.invariant.from
-
-pub offset_bounds-measures-i : goal.offset_bounds-measures-i
-offset_bounds-measures-i c = omega arith
-
-pub bounds-measures-i : goal.bounds-measures-i
-bounds-measures-i c = omega arith
-
-pub overflow_add-i : goal.overflow_add-i
-overflow_add-i c = omega arith
-
-pub loop-i-smaller : goal.loop-i-smaller
-loop-i-smaller c = omega arith
 
 pub loop-i-preserved : goal.loop-i-preserved
 loop-i-preserved c = let h = c.loop-i-test.true in

@@ -13,18 +13,6 @@ pub loop-i-init : goal.loop-i-init
 unfolding of_bits
 loop-i-init c = (omega arith, sym sum_none)
 
-pub offset_bounds-measures-i : goal.offset_bounds-measures-i
-offset_bounds-measures-i c = omega arith
-
-pub bounds-measures-i : goal.bounds-measures-i
-bounds-measures-i c = omega arith
-
-pub overflow_add-i : goal.overflow_add-i
-overflow_add-i c = omega arith
-
-pub loop-i-smaller : goal.loop-i-smaller
-loop-i-smaller c = omega arith
-
 pub loop-i-preserved : goal.loop-i-preserved
 loop-i-preserved c = let L = c.loop-i in
     let l = c.args.measures.now in

@@ -43,5 +43,5 @@ pub returns : goal.returns
 returns c =
     let a = c.args in
     hit a.b0 a.b1 a.p a.q c.crossing.result c.crossing.ensures (ap not c.if-not-crossing.false)
-    c.offset-dp.result c.offset.result c.clamp-t.result c.minus.result c.times.result c.plus.result
-    c.offset-dp.ensures c.offset.ensures c.clamp-t.ensures c.minus.ensures c.times.ensures c.plus.ensures
+    c.offset-dp.result c.offset.result c.clamp-t.result c.sub.result c.mul.result c.add.result
+    c.offset-dp.ensures c.offset.ensures c.clamp-t.ensures c.sub.ensures c.mul.ensures c.add.ensures

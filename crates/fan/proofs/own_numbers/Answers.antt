@@ -12,10 +12,6 @@ pub loop-i-init : goal.loop-i-init
 loop-i-init c =
     (search rules, refl, λ a l. absurd (not-suc-le-zero l))
 
-pub loop-i-smaller : goal.loop-i-smaller
-loop-i-smaller c =
-    simp length-set (omega arith)
-
 pub loop-i-preserved : goal.loop-i-preserved
 loop-i-preserved c =
     let L = c.loop-i in (

@@ -1,27 +1,20 @@
--- `fan::stands_in` meets its contract. The invariant: whether x stands in the rest is whether it stands in the whole. Assumes nothing.
-use borrow.Author.Rules.{rules}
-use mathlib.Core.Path.{refl, sym, ◌∙◌}
-use Rattle.lists.proofs.Sifts.{stands_here, stands_on, stands_end}
+-- `fan::stands_in` meets its contract: the library's search says whether any element is x. Assumes nothing.
+use mathlib.Core.Path.{◌≡◌, refl, ap, ◌∙◌}
+use Prim.Native.Nat.{ℕ}
+use mathlib.Core.List.{List, [], ◌∷◌}
+use Rattle.std.specs.Prelude.{Bool, true, false, nat_eq, ◌||◌}
+use Rattle.std.specs.List.{list_any}
+use Rattle.lists.specs.Lists.{stands, pick}
 use Rattle.fan.proofs.stands_in.Goals as goal
 
-pub loop-i-init : goal.loop-i-init
-loop-i-init c =
-    (search rules, refl)
-
-pub returns-then-b-i : goal.returns-then-b-i
-returns-then-b-i c =
-    let L = c.loop-i in
-    let A = c.args in
-    sym (stands_here A.x A.b.now L.i (search rules) c.if-b-i.true) ∙ L.invariant.1
-
-pub loop-i-preserved : goal.loop-i-preserved
-loop-i-preserved c =
-    let L = c.loop-i in
-    let A = c.args in
-    (search rules, stands_on A.x A.b.now L.i (search rules) c.if-b-i.false ∙ L.invariant.1)
+-- a test of each element in turn is what `stands` asks
+any_stands : (x : ℕ) (b : List ℕ) → list_any (λ y. nat_eq y x) b ≡ stands x b
+any_stands x [] = refl
+any_stands x (y ∷ b) = first (nat_eq y x) ∙ ap (pick (nat_eq y x) true) (any_stands x b)
+  where
+    first : (t : Bool) → (t || list_any (λ y. nat_eq y x) b) ≡ pick t true (list_any (λ y. nat_eq y x) b)
+    first true = refl
+    first false = refl
 
 pub returns : goal.returns
-returns c =
-    let L = c.loop-i in
-    let A = c.args in
-    sym (stands_end A.x A.b.now L.i (search rules)) ∙ L.invariant.1
+returns c = c.contains.ensures.value ∙ any_stands c.args.x c.args.b.now

@@ -11,47 +11,8 @@ use Rattle.fan_c.proofs.Fanning.{strap_words}
 use Rattle.fan_c.proofs.strap_numbers.Goals as goal
 use Rattle.fan_c.proofs.strap_numbers.Goals.{else-strap_holds, then-strap_holds}
 
-pub overflow_add-second : goal.overflow_add-second
-overflow_add-second c = omega arith
-
-pub overflow_add-third : goal.overflow_add-third
-overflow_add-third c = omega arith
-
 pub loop-i-init : goal.loop-i-init
 loop-i-init c = let A = c.args in (λ M. rw (no_straps A.v (words_from A.bytes.now A.at (4 * A.e)) M) (numbers_none _), refl, omega arith, omega arith)
-
-pub overflow_add-at : goal.overflow_add-at
-overflow_add-at c = omega arith
-
-pub word_at-a-requires : goal.word_at-a-requires
-word_at-a-requires c = omega arith
-
-pub overflow_add-second-in-loop-i : goal.overflow_add-second-in-loop-i
-overflow_add-second-in-loop-i c = omega arith
-
-pub word_at-b-requires : goal.word_at-b-requires
-word_at-b-requires c = omega arith
-
-pub overflow_add-third-in-loop-i : goal.overflow_add-third-in-loop-i
-overflow_add-third-in-loop-i c = omega arith
-
-pub word_at-structural-requires : goal.word_at-structural-requires
-word_at-structural-requires c = omega arith
-
-pub offset_bounds-numbers-r : goal.offset_bounds-numbers-r
-offset_bounds-numbers-r c = omega arith
-
-pub bounds-numbers-r : goal.bounds-numbers-r
-bounds-numbers-r c = omega arith
-
-pub overflow_add-r : goal.overflow_add-r
-overflow_add-r c = omega arith
-
-pub overflow_add-i : goal.overflow_add-i
-overflow_add-i c = omega arith
-
-pub loop-i-smaller : goal.loop-i-smaller
-loop-i-smaller c = omega arith
 
 pub loop-i-preserved : goal.loop-i-preserved
 loop-i-preserved c = let A = c.args in

@@ -11,6 +11,3 @@ use Rattle.fan_c.proofs.triangle_numbers.Given as goal
 -- `fan_c::triangle_numbers` meets its contract: the invariant is the fan among the rows that were passed. Assumes nothing.
 abbrev pub invariant-loop-i : goal.invariant-loop-i
 invariant-loop-i l = ((M : List Float) → NumbersRead (triangles_with l.v l.i (words_from l.bytes l.at (3 * l.t)) M) l.r l.numbers) × (length l.numbers ≡ length l.initial.numbers) × (l.r ≤ l.i) × (l.i ≤ l.t)
-
-abbrev pub decreases-loop-i : goal.decreases-loop-i
-decreases-loop-i l = l.t - l.i

@@ -10,27 +10,6 @@ use Rattle.fan_reach.proofs.link_corners.Goals as goal
 pub loop-p-init : goal.loop-p-init
 loop-p-init c = (omega arith, c.requires)
 
-pub offset_bounds-heads-b : goal.offset_bounds-heads-b
-offset_bounds-heads-b c = omega (arith, c.loop-p.invariant.1.heads_long)
-
-pub bounds-heads-b : goal.bounds-heads-b
-bounds-heads-b c = omega (arith, c.loop-p.invariant.1.heads_long)
-
-pub offset_bounds-nexts-p : goal.offset_bounds-nexts-p
-offset_bounds-nexts-p c = omega (arith, c.loop-p.invariant.1.nexts_long, c.loop-p.invariant.1.few)
-
-pub bounds-nexts-p : goal.bounds-nexts-p
-bounds-nexts-p c = omega (arith, c.loop-p.invariant.1.nexts_long, c.loop-p.invariant.1.few)
-
-pub overflow_cast-heads : goal.overflow_cast-heads
-overflow_cast-heads c = omega (arith, c.loop-p.invariant.1.few)
-
-pub offset_bounds-heads-b-in-loop-p : goal.offset_bounds-heads-b-in-loop-p
-offset_bounds-heads-b-in-loop-p c = omega (arith, c.loop-p.invariant.1.heads_long)
-
-pub bounds-heads-b-in-loop-p : goal.bounds-heads-b-in-loop-p
-bounds-heads-b-in-loop-p c = omega (arith, c.loop-p.invariant.1.heads_long)
-
 pub loop-p-preserved : goal.loop-p-preserved
 loop-p-preserved c = let A = c.args in
     let L = c.loop-p in

@@ -4,6 +4,3 @@ use Rattle.fans_export.proofs.fans_scan.Given as goal
 
 abbrev pub invariant-loop-i : goal.invariant-loop-i
 invariant-loop-i l = (l.i ≤ l.fn.t) × (l.r ≤ l.i) × (l.o ≡ 3 * l.r) × (length l.numbers ≡ length l.initial.numbers) × (length l.verts ≡ length l.initial.verts) × (length l.measures ≡ length l.initial.measures)
-
-abbrev pub decreases-loop-i : goal.decreases-loop-i
-decreases-loop-i l = l.fn.t - l.i

@@ -12,8 +12,8 @@ returns-then-why-ne0 c = close_late _ _ _ _ _ _ c.shut_reader-why.ensures c.if-w
 pub held-end-requires : goal.held-end-requires
 held-end-requires c = still_sized _ _ _ c.shut_reader-why.ensures c.if-why-ne0.false
 
-pub slice_bounds-read_sheet-end : goal.slice_bounds-read_sheet-end
-slice_bounds-read_sheet-end c = omega (arith, still_sized _ _ _ c.shut_reader-why.ensures c.if-why-ne0.false, c.held-end.ensures.few)
-
 pub returns : goal.returns
 returns c = close_open _ _ _ _ _ _ _ c.shut_reader-why.ensures c.if-why-ne0.false c.held-end.ensures.is c.read_sheet.ensures
+
+pub slice_bounds-read_sheet-end : goal.slice_bounds-read_sheet-end
+slice_bounds-read_sheet-end c = omega (arith, still_sized _ _ _ c.shut_reader-why.ensures c.if-why-ne0.false, c.held-end.ensures.few)

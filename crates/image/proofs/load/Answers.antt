@@ -9,9 +9,6 @@ words_into-requires-3 c = (omega (arith, c.requires.long, c.word_at-b.ensures, c
 pub numbers_into-requires-3 : goal.numbers_into-requires-3
 numbers_into-requires-3 c = (omega (arith, c.requires.long, c.word_at-b.ensures, c.word_at-e.ensures, c.word_at-t.ensures, c.word_at-p.ensures), omega (arith, c.requires.lengths_room, c.word_at-b.ensures, c.word_at-e.ensures, c.word_at-t.ensures, c.word_at-p.ensures))
 
-pub overflow_add-edges-3 : goal.overflow_add-edges-3
-overflow_add-edges-3 c = omega (arith, c.word_at-b.ensures, c.word_at-e.ensures, c.word_at-t.ensures, c.word_at-p.ensures)
-
 pub words_into-requires-4 : goal.words_into-requires-4
 words_into-requires-4 c = (omega (arith, c.requires.long, c.word_at-b.ensures, c.word_at-e.ensures, c.word_at-t.ensures, c.word_at-p.ensures), omega (arith, c.requires.outline_room, c.word_at-b.ensures, c.word_at-e.ensures, c.word_at-t.ensures, c.word_at-p.ensures))
 

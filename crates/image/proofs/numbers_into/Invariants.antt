@@ -7,6 +7,3 @@ use Rattle.image.proofs.numbers_into.Given as goal
 -- `image::numbers_into` meets its contract: a block fills with numbers. Assumes nothing.
 abbrev pub invariant-loop-i : goal.invariant-loop-i
 invariant-loop-i l = Filling (λ k. number_of (word_at_of l.bytes (l.at + k))) l.n l.initial.out l.out l.i
-
-abbrev pub decreases-loop-i : goal.decreases-loop-i
-decreases-loop-i l = l.n - l.i

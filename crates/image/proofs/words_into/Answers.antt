@@ -7,24 +7,6 @@ use Rattle.image.proofs.words_into.Goals as goal
 pub loop-i-init : goal.loop-i-init
 loop-i-init c = fill_start _ _ _
 
-pub overflow_add-at : goal.overflow_add-at
-overflow_add-at c = omega arith
-
-pub word_at-requires : goal.word_at-requires
-word_at-requires c = omega arith
-
-pub offset_bounds-out-i : goal.offset_bounds-out-i
-offset_bounds-out-i c = omega arith
-
-pub bounds-out-i : goal.bounds-out-i
-bounds-out-i c = omega arith
-
-pub overflow_add-i : goal.overflow_add-i
-overflow_add-i c = omega arith
-
-pub loop-i-smaller : goal.loop-i-smaller
-loop-i-smaller c = omega arith
-
 pub loop-i-preserved : goal.loop-i-preserved
 loop-i-preserved c = fill_more _ _ _ _ _ _ c.loop-i.invariant c.loop-i-test.true c.requires.1 c.word_at.ensures.0
 

@@ -4,10 +4,6 @@ use mathlib.Core.Path.{◌∙◌, ap}
 use Rattle.image.specs.Words.{number_of}
 use Rattle.image_elements.proofs.number_at.Goals as goal
 
--- `image_elements::number_at` meets its contract. Assumes nothing.
-pub word_at-requires : goal.word_at-requires
-word_at-requires c = omega arith
-
 pub number_of-requires : goal.number_of-requires
 number_of-requires c = c.word_at.ensures.1
 

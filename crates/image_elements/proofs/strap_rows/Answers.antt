@@ -11,83 +11,8 @@ use Rattle.image_elements.proofs.strap_rows.Goals.{else-word_at-eq1, then-word_a
 pub loop-i-init : goal.loop-i-init
 loop-i-init c = (strapping_start _ _ _ _ _, omega arith)
 
-pub overflow_mul-e : goal.overflow_mul-e
-overflow_mul-e c = omega arith
-
-pub overflow_add-at : goal.overflow_add-at
-overflow_add-at c = omega arith
-
-pub overflow_add-at-in-loop-i : goal.overflow_add-at-in-loop-i
-overflow_add-at-in-loop-i c = omega arith
-
-pub word_at-requires : goal.word_at-requires
-word_at-requires c = omega arith
-
-pub offset_bounds-numbers-n : goal.offset_bounds-numbers-n
-offset_bounds-numbers-n c = omega arith
-
-pub bounds-numbers-n : goal.bounds-numbers-n
-bounds-numbers-n c = omega arith
-
-pub overflow_add-at-then-word_at-eq1 : goal.overflow_add-at-then-word_at-eq1
-overflow_add-at-then-word_at-eq1 c = omega arith
-
-pub word_at-requires-then-word_at-eq1 : goal.word_at-requires-then-word_at-eq1
-word_at-requires-then-word_at-eq1 c = omega arith
-
-pub offset_bounds-verts-o : goal.offset_bounds-verts-o
-offset_bounds-verts-o c = omega arith
-
-pub bounds-verts-o : goal.bounds-verts-o
-bounds-verts-o c = omega arith
-
-pub overflow_add-at-then-word_at-eq1-2 : goal.overflow_add-at-then-word_at-eq1-2
-overflow_add-at-then-word_at-eq1-2 c = omega arith
-
-pub overflow_add-at-then-word_at-eq1-3 : goal.overflow_add-at-then-word_at-eq1-3
-overflow_add-at-then-word_at-eq1-3 c = omega arith
-
-pub word_at-requires-then-word_at-eq1-2 : goal.word_at-requires-then-word_at-eq1-2
-word_at-requires-then-word_at-eq1-2 c = omega arith
-
-pub overflow_add-verts : goal.overflow_add-verts
-overflow_add-verts c = omega arith
-
-pub offset_bounds-verts-o-then-word_at-eq1 : goal.offset_bounds-verts-o-then-word_at-eq1
-offset_bounds-verts-o-then-word_at-eq1 c = omega arith
-
 pub bounds-verts-o-then-word_at-eq1 : goal.bounds-verts-o-then-word_at-eq1
 bounds-verts-o-then-word_at-eq1 c = simp length-set (omega arith)
-
-pub overflow_mul-e-then-word_at-eq1 : goal.overflow_mul-e-then-word_at-eq1
-overflow_mul-e-then-word_at-eq1 c = omega arith
-
-pub overflow_add-at-then-word_at-eq1-4 : goal.overflow_add-at-then-word_at-eq1-4
-overflow_add-at-then-word_at-eq1-4 c = omega arith
-
-pub overflow_add-at-then-word_at-eq1-5 : goal.overflow_add-at-then-word_at-eq1-5
-overflow_add-at-then-word_at-eq1-5 c = omega arith
-
-pub number_at-requires : goal.number_at-requires
-number_at-requires c = omega arith
-
-pub offset_bounds-measures-n : goal.offset_bounds-measures-n
-offset_bounds-measures-n c = omega arith
-
-pub bounds-measures-n : goal.bounds-measures-n
-bounds-measures-n c = omega arith
-
-pub overflow_add-o : goal.overflow_add-o
-overflow_add-o c = omega arith
-
-pub overflow_add-n : goal.overflow_add-n
-overflow_add-n c = omega arith
-
-pub overflow_add-i : goal.overflow_add-i
-overflow_add-i c = omega arith
-
-pub loop-i-smaller : goal.loop-i-smaller
-loop-i-smaller c = omega arith
 
 pub loop-i-preserved : goal.loop-i-preserved
 loop-i-preserved c = let inv = c.loop-i.invariant in

@@ -10,6 +10,3 @@ use Rattle.image_elements.proofs.strap_rows.Given as goal
 -- `image_elements::strap_rows` meets its contract: the invariant is the table of the straps among the edges that were passed. The laws are in proofs/Rows.antt.
 abbrev pub invariant-loop-i : goal.invariant-loop-i
 invariant-loop-i l = StrapRows l.bytes l.at l.e l.i l.n l.o l.initial.numbers l.initial.verts l.initial.measures l.numbers l.verts l.measures × (l.i ≤ l.e)
-
-abbrev pub decreases-loop-i : goal.decreases-loop-i
-decreases-loop-i l = l.e - l.i

@@ -9,92 +9,11 @@ use Rattle.image_elements.proofs.triangle_rows.Goals as goal
 pub loop-i-init : goal.loop-i-init
 loop-i-init c = (triangling_start _ _ _ _ _, omega arith)
 
-pub offset_bounds-numbers-i : goal.offset_bounds-numbers-i
-offset_bounds-numbers-i c = omega arith
-
-pub bounds-numbers-i : goal.bounds-numbers-i
-bounds-numbers-i c = omega arith
-
-pub overflow_add-at : goal.overflow_add-at
-overflow_add-at c = omega arith
-
-pub word_at-requires : goal.word_at-requires
-word_at-requires c = omega arith
-
-pub offset_bounds-verts-o : goal.offset_bounds-verts-o
-offset_bounds-verts-o c = omega arith
-
-pub bounds-verts-o : goal.bounds-verts-o
-bounds-verts-o c = omega arith
-
-pub overflow_add-at-in-loop-i : goal.overflow_add-at-in-loop-i
-overflow_add-at-in-loop-i c = omega arith
-
-pub overflow_add-at-in-loop-i-2 : goal.overflow_add-at-in-loop-i-2
-overflow_add-at-in-loop-i-2 c = omega arith
-
-pub word_at-requires-in-loop-i : goal.word_at-requires-in-loop-i
-word_at-requires-in-loop-i c = omega arith
-
-pub overflow_add-verts : goal.overflow_add-verts
-overflow_add-verts c = omega arith
-
-pub offset_bounds-verts-o-in-loop-i : goal.offset_bounds-verts-o-in-loop-i
-offset_bounds-verts-o-in-loop-i c = omega arith
-
 pub bounds-verts-o-in-loop-i : goal.bounds-verts-o-in-loop-i
 bounds-verts-o-in-loop-i c = simp length-set (omega arith)
 
-pub overflow_mul-t : goal.overflow_mul-t
-overflow_mul-t c = omega arith
-
-pub overflow_add-at-in-loop-i-3 : goal.overflow_add-at-in-loop-i-3
-overflow_add-at-in-loop-i-3 c = omega arith
-
-pub overflow_add-at-in-loop-i-4 : goal.overflow_add-at-in-loop-i-4
-overflow_add-at-in-loop-i-4 c = omega arith
-
-pub word_at-requires-in-loop-i-2 : goal.word_at-requires-in-loop-i-2
-word_at-requires-in-loop-i-2 c = omega arith
-
-pub overflow_add-verts-in-loop-i : goal.overflow_add-verts-in-loop-i
-overflow_add-verts-in-loop-i c = omega arith
-
-pub offset_bounds-verts-o-in-loop-i-2 : goal.offset_bounds-verts-o-in-loop-i-2
-offset_bounds-verts-o-in-loop-i-2 c = omega arith
-
 pub bounds-verts-o-in-loop-i-2 : goal.bounds-verts-o-in-loop-i-2
 bounds-verts-o-in-loop-i-2 c = simp length-set (omega arith)
-
-pub overflow_mul-t-in-loop-i : goal.overflow_mul-t-in-loop-i
-overflow_mul-t-in-loop-i c = omega arith
-
-pub overflow_add-at-in-loop-i-5 : goal.overflow_add-at-in-loop-i-5
-overflow_add-at-in-loop-i-5 c = omega arith
-
-pub overflow_add-at-in-loop-i-6 : goal.overflow_add-at-in-loop-i-6
-overflow_add-at-in-loop-i-6 c = omega arith
-
-pub number_at-requires : goal.number_at-requires
-number_at-requires c = omega arith
-
-pub abs-requires : goal.abs-requires
-abs-requires c = omega arith
-
-pub offset_bounds-measures-i : goal.offset_bounds-measures-i
-offset_bounds-measures-i c = omega arith
-
-pub bounds-measures-i : goal.bounds-measures-i
-bounds-measures-i c = omega arith
-
-pub overflow_add-o : goal.overflow_add-o
-overflow_add-o c = omega arith
-
-pub overflow_add-i : goal.overflow_add-i
-overflow_add-i c = omega arith
-
-pub loop-i-smaller : goal.loop-i-smaller
-loop-i-smaller c = omega arith
 
 pub loop-i-preserved : goal.loop-i-preserved
 loop-i-preserved c = (triangle_row _ _ _ _ _ _ _ _ _ _ _ _ _ _ _ _ c.loop-i.invariant.0 c.loop-i-test.true (omega arith) (omega arith) (omega arith) c.word_at.ensures.0 c.word_at-in-loop-i.ensures.0 c.word_at-in-loop-i-2.ensures.0 c.number_at.ensures c.abs.ensures, omega arith)

@@ -9,6 +9,3 @@ use Rattle.image_elements.proofs.triangle_rows.Given as goal
 -- `image_elements::triangle_rows` meets its contract: the invariant is the table of the triangles that were passed. The laws are in proofs/Rows.antt.
 abbrev pub invariant-loop-i : goal.invariant-loop-i
 invariant-loop-i l = TriangleRows l.bytes l.at l.t l.i l.o l.initial.numbers l.initial.verts l.initial.measures l.numbers l.verts l.measures × (l.i ≤ l.t)
-
-abbrev pub decreases-loop-i : goal.decreases-loop-i
-decreases-loop-i l = l.t - l.i

@@ -4,10 +4,6 @@ use Rattle.image.specs.Words.{put_words}
 use Rattle.image_writing.proofs.Stored.{left_words_none, storable_without}
 use Rattle.image_writing.proofs.store.Goals as goal
 
--- `image_writing::store` meets its contract: an image without any listed edge. Assumes nothing.
-pub slice_bounds-store_without-end : goal.slice_bounds-store_without-end
-slice_bounds-store_without-end c = refl
-
 pub store_without-requires : goal.store_without-requires
 store_without-requires c = storable_without _ _ _ _ _ _ _ _ _ _ _ c.requires
 

@@ -11,27 +11,6 @@ use Rattle.image_writing.proofs.store_numbers.Goals as goal
 pub loop-i-init : goal.loop-i-init
 loop-i-init c = put_start bits_in_of (to_bits binary32) refl (λ a. refl) bits_append bits_length _ _ _
 
-pub overflow_add-at : goal.overflow_add-at
-overflow_add-at c = omega arith
-
-pub offset_bounds-numbers-i : goal.offset_bounds-numbers-i
-offset_bounds-numbers-i c = omega arith
-
-pub bounds-numbers-i : goal.bounds-numbers-i
-bounds-numbers-i c = omega arith
-
-pub bits_of-requires : goal.bits_of-requires
-bits_of-requires c = omega arith
-
-pub put_word-requires : goal.put_word-requires
-put_word-requires c = omega arith
-
-pub overflow_add-i : goal.overflow_add-i
-overflow_add-i c = omega arith
-
-pub loop-i-smaller : goal.loop-i-smaller
-loop-i-smaller c = omega arith
-
 pub loop-i-preserved : goal.loop-i-preserved
 loop-i-preserved c = put_more bits_in_of (to_bits binary32) refl (λ a. refl) bits_append bits_length _ _ _ _ _ _ nan _ c.loop-i.invariant c.loop-i-test.true c.requires c.put_word.ensures c.bits_of.ensures c.put_word.auto.out
 

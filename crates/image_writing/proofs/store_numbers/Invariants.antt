@@ -11,6 +11,3 @@ use Rattle.image_writing.proofs.store_numbers.Given as goal
 -- `image_writing::store_numbers` meets its contract: one word more a turn. Assumes nothing.
 abbrev pub invariant-loop-i : goal.invariant-loop-i
 invariant-loop-i l = Putting bits_in_of l.at l.numbers l.initial.out l.out l.i
-
-abbrev pub decreases-loop-i : goal.decreases-loop-i
-decreases-loop-i l = length l.numbers - l.i

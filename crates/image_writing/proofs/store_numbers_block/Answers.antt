@@ -8,9 +8,6 @@ use Rattle.image.specs.Words.{bits_in_of}
 use Rattle.image_writing.proofs.Puts.{PuttingBlock, block_start, column_in, front_in, listed_few, front_room, column_placed, block_more, block_done, bits_append, bits_length}
 use Rattle.image_writing.proofs.store_numbers_block.Goals as goal
 
-pub nonzero_div-stride : goal.nonzero_div-stride
-nonzero_div-stride c = omega (arith, c.requires.some)
-
 pub loop-c-init : goal.loop-c-init
 loop-c-init c = block_start bits_in_of (to_bits binary32) refl (λ a. refl) bits_append bits_length _ _ _ _ _ _ _
 
@@ -19,12 +16,6 @@ overflow_add-end c = omega (arith, (front_in bits_in_of (to_bits binary32) refl 
 
 pub offset_bounds-block-o : goal.offset_bounds-block-o
 offset_bounds-block-o c = omega (arith, (front_in bits_in_of (to_bits binary32) refl (λ a. refl) bits_append bits_length _ _ _ _ _ _ _ _ _ _ _ c.loop-c.invariant c.loop-c-test.true c.requires))
-
-pub slice_bounds-store_numbers_left-count : goal.slice_bounds-store_numbers_left-count
-slice_bounds-store_numbers_left-count c = omega arith
-
-pub slice_bounds-store_numbers_left-start : goal.slice_bounds-store_numbers_left-start
-slice_bounds-store_numbers_left-start c = omega arith
 
 pub slice_bounds-store_numbers_left-end : goal.slice_bounds-store_numbers_left-end
 slice_bounds-store_numbers_left-end c = front_in bits_in_of (to_bits binary32) refl (λ a. refl) bits_append bits_length _ _ _ _ _ _ _ _ _ _ _ c.loop-c.invariant c.loop-c-test.true c.requires
@@ -40,12 +31,6 @@ overflow_sub-to c = listed_few bits_in_of (to_bits binary32) refl (λ a. refl) b
 
 pub overflow_add-to : goal.overflow_add-to
 overflow_add-to c = omega (arith, (front_room bits_in_of (to_bits binary32) refl (λ a. refl) bits_append bits_length _ _ _ _ _ _ _ _ _ _ _ c.loop-c.invariant c.loop-c-test.true c.requires))
-
-pub overflow_add-c : goal.overflow_add-c
-overflow_add-c c = omega arith
-
-pub loop-c-smaller : goal.loop-c-smaller
-loop-c-smaller c = omega arith
 
 pub loop-c-preserved : goal.loop-c-preserved
 loop-c-preserved c = block_more bits_in_of (to_bits binary32) refl (λ a. refl) bits_append bits_length _ _ _ _ _ _ _ _ _ _ _ c.loop-c.invariant c.loop-c-test.true c.requires _ c.store_numbers_left.ensures c.store_numbers_left.auto.out

@@ -10,6 +10,3 @@ use Rattle.image_writing.proofs.store_numbers_block.Given as goal
 -- `image_writing::store_numbers_block` meets its contract: one column more a turn. Assumes nothing.
 abbrev pub invariant-loop-c : goal.invariant-loop-c
 invariant-loop-c l = PuttingBlock bits_in_of l.width l.n l.s l.gone l.at l.block l.initial.out l.out l.c l.o l.to
-
-abbrev pub decreases-loop-c : goal.decreases-loop-c
-decreases-loop-c l = l.width - l.c

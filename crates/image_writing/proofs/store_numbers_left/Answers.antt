@@ -10,15 +10,6 @@ use Rattle.image_writing.proofs.store_numbers_left.Goals as goal
 pub loop-j-init : goal.loop-j-init
 loop-j-init c = left_start bits_in_of (to_bits binary32) refl (λ a. refl) bits_append bits_length _ _ _ _ _
 
-pub offset_bounds-gone-j : goal.offset_bounds-gone-j
-offset_bounds-gone-j c = omega (arith, c.requires.listed)
-
-pub bounds-gone-j : goal.bounds-gone-j
-bounds-gone-j c = omega (arith, c.requires.listed)
-
-pub offset_bounds-column-from : goal.offset_bounds-column-from
-offset_bounds-column-from c = omega (arith, c.loop-j.invariant.within)
-
 pub slice_bounds-store_numbers-count : goal.slice_bounds-store_numbers-count
 slice_bounds-store_numbers-count c = end_from bits_in_of (to_bits binary32) refl (λ a. refl) bits_append bits_length _ _ _ _ _ _ _ _ _ c.loop-j.invariant c.requires c.loop-j-test.true _ refl
 
@@ -40,26 +31,14 @@ overflow_add-to c = omega (arith, (run_room bits_in_of (to_bits binary32) refl (
 pub overflow_add-from : goal.overflow_add-from
 overflow_add-from c = omega (arith, (end_in bits_in_of (to_bits binary32) refl (λ a. refl) bits_append bits_length _ _ _ _ _ _ _ _ _ c.loop-j.invariant c.requires c.loop-j-test.true _ refl))
 
-pub overflow_add-j : goal.overflow_add-j
-overflow_add-j c = omega arith
-
-pub loop-j-smaller : goal.loop-j-smaller
-loop-j-smaller c = omega arith
-
 pub loop-j-preserved : goal.loop-j-preserved
 loop-j-preserved c = left_next bits_in_of (to_bits binary32) refl (λ a. refl) bits_append bits_length _ _ _ _ _ _ _ _ _ c.loop-j.invariant c.requires c.loop-j-test.true _ refl _ c.store_numbers.ensures c.store_numbers.auto.out
-
-pub offset_bounds-column-from-2 : goal.offset_bounds-column-from-2
-offset_bounds-column-from-2 c = omega (arith, c.loop-j.invariant.within)
 
 pub slice_bounds-store_numbers-count-2 : goal.slice_bounds-store_numbers-count-2
 slice_bounds-store_numbers-count-2 c = c.loop-j.invariant.within
 
 pub slice_bounds-store_numbers-start-2 : goal.slice_bounds-store_numbers-start-2
 slice_bounds-store_numbers-start-2 c = c.loop-j.invariant.within
-
-pub slice_bounds-store_numbers-end-2 : goal.slice_bounds-store_numbers-end-2
-slice_bounds-store_numbers-end-2 c = omega arith
 
 pub store_numbers-requires-2 : goal.store_numbers-requires-2
 store_numbers-requires-2 c = omega (arith, c.store_numbers-arg-2-1.given.1, (rest_room bits_in_of (to_bits binary32) refl (λ a. refl) bits_append bits_length _ _ _ _ _ _ _ _ _ c.loop-j.invariant c.requires c.loop-j-test.false))

@@ -10,6 +10,3 @@ use Rattle.image_writing.proofs.store_numbers_left.Given as goal
 -- `image_writing::store_numbers_left` meets its contract: one run more a turn, and the last. Assumes nothing.
 abbrev pub invariant-loop-j : goal.invariant-loop-j
 invariant-loop-j l = PuttingLeft bits_in_of l.s l.gone l.at l.column l.initial.out l.out l.from l.to l.j
-
-abbrev pub decreases-loop-j : goal.decreases-loop-j
-decreases-loop-j l = l.s - l.j

@@ -9,6 +9,3 @@ use Rattle.image_writing.proofs.store_words.Given as goal
 -- `image_writing::store_words` meets its contract: one word more a turn. Assumes nothing.
 abbrev pub invariant-loop-i : goal.invariant-loop-i
 invariant-loop-i l = Putting (λ l. l) l.at l.words l.initial.out l.out l.i
-
-abbrev pub decreases-loop-i : goal.decreases-loop-i
-decreases-loop-i l = length l.words - l.i

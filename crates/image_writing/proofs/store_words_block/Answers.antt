@@ -6,9 +6,6 @@ use mathlib.Core.Path.{refl}
 use Rattle.image_writing.proofs.Puts.{PuttingBlock, block_start, column_in, front_in, listed_few, front_room, column_placed, block_more, block_done}
 use Rattle.image_writing.proofs.store_words_block.Goals as goal
 
-pub nonzero_div-stride : goal.nonzero_div-stride
-nonzero_div-stride c = omega (arith, c.requires.some)
-
 pub loop-c-init : goal.loop-c-init
 loop-c-init c = block_start (λ l. l) (λ x. x) refl (λ a. refl) (λ x y. refl) (λ x. refl) _ _ _ _ _ _ _
 
@@ -17,12 +14,6 @@ overflow_add-end c = omega (arith, (front_in (λ l. l) (λ x. x) refl (λ a. ref
 
 pub offset_bounds-block-o : goal.offset_bounds-block-o
 offset_bounds-block-o c = omega (arith, (front_in (λ l. l) (λ x. x) refl (λ a. refl) (λ x y. refl) (λ x. refl) _ _ _ _ _ _ _ _ _ _ _ c.loop-c.invariant c.loop-c-test.true c.requires))
-
-pub slice_bounds-store_words_left-count : goal.slice_bounds-store_words_left-count
-slice_bounds-store_words_left-count c = omega arith
-
-pub slice_bounds-store_words_left-start : goal.slice_bounds-store_words_left-start
-slice_bounds-store_words_left-start c = omega arith
 
 pub slice_bounds-store_words_left-end : goal.slice_bounds-store_words_left-end
 slice_bounds-store_words_left-end c = front_in (λ l. l) (λ x. x) refl (λ a. refl) (λ x y. refl) (λ x. refl) _ _ _ _ _ _ _ _ _ _ _ c.loop-c.invariant c.loop-c-test.true c.requires
@@ -38,12 +29,6 @@ overflow_sub-to c = listed_few (λ l. l) (λ x. x) refl (λ a. refl) (λ x y. re
 
 pub overflow_add-to : goal.overflow_add-to
 overflow_add-to c = omega (arith, (front_room (λ l. l) (λ x. x) refl (λ a. refl) (λ x y. refl) (λ x. refl) _ _ _ _ _ _ _ _ _ _ _ c.loop-c.invariant c.loop-c-test.true c.requires))
-
-pub overflow_add-c : goal.overflow_add-c
-overflow_add-c c = omega arith
-
-pub loop-c-smaller : goal.loop-c-smaller
-loop-c-smaller c = omega arith
 
 pub loop-c-preserved : goal.loop-c-preserved
 loop-c-preserved c = block_more (λ l. l) (λ x. x) refl (λ a. refl) (λ x y. refl) (λ x. refl) _ _ _ _ _ _ _ _ _ _ _ c.loop-c.invariant c.loop-c-test.true c.requires _ c.store_words_left.ensures c.store_words_left.auto.out

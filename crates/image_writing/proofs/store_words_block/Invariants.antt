@@ -8,6 +8,3 @@ use Rattle.image_writing.proofs.store_words_block.Given as goal
 -- `image_writing::store_words_block` meets its contract: one column more a turn. Assumes nothing.
 abbrev pub invariant-loop-c : goal.invariant-loop-c
 invariant-loop-c l = PuttingBlock (λ l. l) l.width l.n l.s l.gone l.at l.block l.initial.out l.out l.c l.o l.to
-
-abbrev pub decreases-loop-c : goal.decreases-loop-c
-decreases-loop-c l = l.width - l.c

@@ -8,6 +8,3 @@ use Rattle.image_writing.proofs.store_words_left.Given as goal
 -- `image_writing::store_words_left` meets its contract: one run more a turn, and the last. Assumes nothing.
 abbrev pub invariant-loop-j : goal.invariant-loop-j
 invariant-loop-j l = PuttingLeft (λ l. l) l.s l.gone l.at l.column l.initial.out l.out l.from l.to l.j
-
-abbrev pub decreases-loop-j : goal.decreases-loop-j
-decreases-loop-j l = l.s - l.j

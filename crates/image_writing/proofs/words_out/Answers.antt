@@ -5,29 +5,8 @@ use borrow.Author.Rules.{rules}
 use Rattle.image.proofs.Words.{Writing, write_start, write_more, write_done}
 use Rattle.image_writing.proofs.words_out.Goals as goal
 
-pub write_one-requires : goal.write_one-requires
-write_one-requires c = omega arith
-
 pub loop-i-init : goal.loop-i-init
 loop-i-init c = write_start _ _ _ _ _ c.write_one.ensures c.write_one.auto.out
-
-pub overflow_add-i : goal.overflow_add-i
-overflow_add-i c = omega arith
-
-pub offset_bounds-table-i : goal.offset_bounds-table-i
-offset_bounds-table-i c = omega arith
-
-pub bounds-table-i : goal.bounds-table-i
-bounds-table-i c = omega arith
-
-pub put_word-requires : goal.put_word-requires
-put_word-requires c = omega arith
-
-pub overflow_add-i-in-loop-i : goal.overflow_add-i-in-loop-i
-overflow_add-i-in-loop-i c = omega arith
-
-pub loop-i-smaller : goal.loop-i-smaller
-loop-i-smaller c = omega arith
 
 pub loop-i-preserved : goal.loop-i-preserved
 loop-i-preserved c = write_more _ _ _ _ _ _ _ c.loop-i.invariant c.loop-i-test.true c.requires.1 (omega (arith, c.requires.0, c.write_one.auto.out)) c.put_word.ensures c.put_word.auto.out

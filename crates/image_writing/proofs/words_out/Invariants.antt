@@ -8,6 +8,3 @@ use Rattle.image_writing.proofs.words_out.Given as goal
 -- `image_writing::words_out` meets its contract: one word more a turn. Assumes nothing.
 abbrev pub invariant-loop-i : goal.invariant-loop-i
 invariant-loop-i l = Writing l.first l.table l.n l.initial.out l.out l.i
-
-abbrev pub decreases-loop-i : goal.decreases-loop-i
-decreases-loop-i l = l.n - l.i

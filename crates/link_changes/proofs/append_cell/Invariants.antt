@@ -9,6 +9,3 @@ use Rattle.link_changes.proofs.append_cell.Given as goal
 -- `link_changes::append_cell` meets its contract: the invariant is the new cell in the chains of the corners passed (`Appending` of proofs/Appended.antt). Assumes nothing.
 abbrev pub invariant-loop-c : goal.invariant-loop-c
 invariant-loop-c l = Appending l.heads l.k l.span l.rows l.n (cell 0 l.rows l.corners) (length l.initial.table) l.table l.c l.o
-
-abbrev pub decreases-loop-c : goal.decreases-loop-c
-decreases-loop-c l = l.k - l.c

@@ -11,14 +11,5 @@ take_cell-requires c = c.requires
 pub raise_links-requires : goal.raise_links-requires
 raise_links-requires c = drop_room _ _ _ _ _ _ _ _ c.requires _ c.take_cell.auto.table
 
-pub overflow_add-i : goal.overflow_add-i
-overflow_add-i c = omega (arith, c.requires.here, c.requires.room.small)
-
-pub overflow_cast-i : goal.overflow_cast-i
-overflow_cast-i c = omega (arith, c.requires.here, c.requires.room.small)
-
-pub lower-requires : goal.lower-requires
-lower-requires c = tt
-
 pub returns : goal.returns
 returns c = drop_done _ _ _ _ _ _ _ _ c.requires _ _ _ c.take_cell.auto.table c.raise_links.auto.table c.take_cell.ensures c.raise_links.ensures c.lower.ensures

@@ -10,29 +10,14 @@ use Rattle.link_changes.proofs.lower.Goals as goal
 pub loop-x-init : goal.loop-x-init
 loop-x-init c = record { long = refl; below = zero-le; done = λ j h. absurd (not-suc-le-zero h); left = λ j h. refl }
 
-pub offset_bounds-table-x : goal.offset_bounds-table-x
-offset_bounds-table-x c = omega (arith, c.loop-x-test.true)
-
 pub bounds-table-x : goal.bounds-table-x
-bounds-table-x c = c.loop-x-test.true
-
-pub less_one-requires : goal.less_one-requires
-less_one-requires c = tt
-
-pub offset_bounds-table-x-in-loop-x : goal.offset_bounds-table-x-in-loop-x
-offset_bounds-table-x-in-loop-x c = omega (arith, c.loop-x-test.true)
+bounds-table-x c = (omega arith)
 
 pub bounds-table-x-in-loop-x : goal.bounds-table-x-in-loop-x
-bounds-table-x-in-loop-x c = c.loop-x-test.true
-
-pub overflow_add-x : goal.overflow_add-x
-overflow_add-x c = omega (arith, c.loop-x-test.true)
-
-pub loop-x-smaller : goal.loop-x-smaller
-loop-x-smaller c = omega (arith, c.loop-x-test.true, c.loop-x.invariant.long)
+bounds-table-x-in-loop-x c = (omega arith)
 
 pub loop-x-preserved : goal.loop-x-preserved
-loop-x-preserved c = lowering_more _ _ _ _ _ c.loop-x.invariant c.loop-x-test.true c.less_one.ensures
+loop-x-preserved c = lowering_more _ _ _ _ _ c.loop-x.invariant (omega arith) c.less_one.ensures
 
 pub shape_of-table : goal.shape_of-table
 shape_of-table c = c.loop-x.invariant.long

@@ -10,6 +10,3 @@ use Rattle.link_changes.proofs.lower.Given as goal
 -- `link_changes::lower` meets its contract: the numbers passed are less (`Lowering` of proofs/Dropped.antt). Assumes nothing.
 abbrev pub invariant-loop-x : goal.invariant-loop-x
 invariant-loop-x l = Lowering l.own l.initial.table l.table l.x
-
-abbrev pub decreases-loop-x : goal.decreases-loop-x
-decreases-loop-x l = length l.initial.table - l.x

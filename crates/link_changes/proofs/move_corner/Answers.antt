@@ -4,16 +4,6 @@ use native.Mathlib.Omega.{arith}
 use borrow.Author.Rules.{rules}
 use Rattle.link_changes.proofs.move_corner.Goals as goal
 
--- `link_changes::move_corner` meets its contract: the cell is taken out of one chain and put into another (proofs/Corners.antt). Assumes nothing.
-pub overflow_mul-v : goal.overflow_mul-v
-overflow_mul-v c = omega (arith, moving_corner _ _ _ _ _ _ _ _ _ _ c.requires)
-
-pub overflow_add-v : goal.overflow_add-v
-overflow_add-v c = omega (arith, moving_corner _ _ _ _ _ _ _ _ _ _ c.requires)
-
-pub offset_bounds-corners-c : goal.offset_bounds-corners-c
-offset_bounds-corners-c c = omega (arith, moving_corner _ _ _ _ _ _ _ _ _ _ c.requires)
-
 pub bounds-corners-c : goal.bounds-corners-c
 bounds-corners-c c = moving_corner _ _ _ _ _ _ _ _ _ _ c.requires
 

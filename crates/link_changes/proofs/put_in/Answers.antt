@@ -9,29 +9,11 @@ use Rattle.link_changes.proofs.put_in.Goals as goal
 pub slot_at-at-requires : goal.slot_at-at-requires
 slot_at-at-requires c = c.requires.slot
 
-pub offset_bounds-table-at : goal.offset_bounds-table-at
-offset_bounds-table-at c = omega (arith, put_in_slot _ _ _ _ _ _ _ _ _ c.requires _ c.slot_at-at.ensures)
-
 pub bounds-table-at : goal.bounds-table-at
 bounds-table-at c = put_in_slot _ _ _ _ _ _ _ _ _ c.requires _ c.slot_at-at.ensures
 
-pub overflow_mul-table : goal.overflow_mul-table
-overflow_mul-table c = omega (arith, put_in_link _ _ _ _ _ _ _ _ _ c.requires _ c.slot_at-at.ensures)
-
-pub overflow_add-table : goal.overflow_add-table
-overflow_add-table c = omega (arith, put_in_link _ _ _ _ _ _ _ _ _ c.requires _ c.slot_at-at.ensures)
-
-pub overflow_add-table-2 : goal.overflow_add-table-2
-overflow_add-table-2 c = omega (arith, put_in_link _ _ _ _ _ _ _ _ _ c.requires _ c.slot_at-at.ensures)
-
-pub offset_bounds-table-heads : goal.offset_bounds-table-heads
-offset_bounds-table-heads c = omega (arith, put_in_link _ _ _ _ _ _ _ _ _ c.requires _ c.slot_at-at.ensures)
-
 pub bounds-table-heads : goal.bounds-table-heads
 bounds-table-heads c = put_in_link _ _ _ _ _ _ _ _ _ c.requires _ c.slot_at-at.ensures
-
-pub offset_bounds-table-at-2 : goal.offset_bounds-table-at-2
-offset_bounds-table-at-2 c = omega (arith, put_in_slot _ _ _ _ _ _ _ _ _ c.requires _ c.slot_at-at.ensures)
 
 pub bounds-table-at-2 : goal.bounds-table-at-2
 bounds-table-at-2 c = simp length-set (put_in_slot _ _ _ _ _ _ _ _ _ c.requires _ c.slot_at-at.ensures)

@@ -7,33 +7,6 @@ use Rattle.link_changes.proofs.raise.Goals as goal
 pub loop-i-init : goal.loop-i-init
 loop-i-init c = (shift_start _ _ _ _, omega arith)
 
-pub overflow_add-table : goal.overflow_add-table
-overflow_add-table c = omega arith
-
-pub overflow_add-table-in-loop-i : goal.overflow_add-table-in-loop-i
-overflow_add-table-in-loop-i c = omega arith
-
-pub offset_bounds-table-to : goal.offset_bounds-table-to
-offset_bounds-table-to c = omega arith
-
-pub bounds-table-to : goal.bounds-table-to
-bounds-table-to c = omega (arith, c.loop-i.invariant.0.long)
-
-pub overflow_add-table-in-loop-i-2 : goal.overflow_add-table-in-loop-i-2
-overflow_add-table-in-loop-i-2 c = omega arith
-
-pub offset_bounds-table-to-in-loop-i : goal.offset_bounds-table-to-in-loop-i
-offset_bounds-table-to-in-loop-i c = omega arith
-
-pub bounds-table-to-in-loop-i : goal.bounds-table-to-in-loop-i
-bounds-table-to-in-loop-i c = omega (arith, c.loop-i.invariant.0.long)
-
-pub overflow_add-i : goal.overflow_add-i
-overflow_add-i c = omega arith
-
-pub loop-i-smaller : goal.loop-i-smaller
-loop-i-smaller c = omega arith
-
 pub loop-i-preserved : goal.loop-i-preserved
 loop-i-preserved c = (shift_more _ _ _ _ _ _ c.loop-i.invariant.0 (omega arith) (omega arith), omega arith)
 

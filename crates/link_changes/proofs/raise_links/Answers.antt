@@ -7,27 +7,6 @@ use Rattle.link_changes.proofs.raise_links.Goals as goal
 pub loop-c-init : goal.loop-c-init
 loop-c-init c = raising_start _ _ _ _ _ _
 
-pub overflow_add-o : goal.overflow_add-o
-overflow_add-o c = omega (arith, raising_fits _ _ _ _ _ _ _ _ _ c.loop-c.invariant c.loop-c-test.true c.requires, c.requires.here, c.requires.cells)
-
-pub overflow_sub-n : goal.overflow_sub-n
-overflow_sub-n c = omega (arith, c.requires.here)
-
-pub overflow_sub-n-in-loop-c : goal.overflow_sub-n-in-loop-c
-overflow_sub-n-in-loop-c c = omega (arith, c.requires.here)
-
-pub raise-requires : goal.raise-requires
-raise-requires c = omega (arith, raising_fits _ _ _ _ _ _ _ _ _ c.loop-c.invariant c.loop-c-test.true c.requires, c.requires.here, c.requires.cells)
-
-pub overflow_add-o-in-loop-c : goal.overflow_add-o-in-loop-c
-overflow_add-o-in-loop-c c = omega (arith, raising_fits _ _ _ _ _ _ _ _ _ c.loop-c.invariant c.loop-c-test.true c.requires)
-
-pub overflow_add-c : goal.overflow_add-c
-overflow_add-c c = omega (arith, c.loop-c-test.true)
-
-pub loop-c-smaller : goal.loop-c-smaller
-loop-c-smaller c = omega (arith, c.loop-c-test.true)
-
 pub loop-c-preserved : goal.loop-c-preserved
 loop-c-preserved c = raising_more _ _ _ _ _ _ _ _ _ c.loop-c.invariant c.loop-c-test.true c.requires _ c.raise.auto.table c.raise.ensures
 

@@ -7,6 +7,3 @@ use Rattle.link_changes.proofs.raise_links.Given as goal
 -- `link_changes::raise_links` meets its contract: the columns passed are moved (`Raising` of proofs/Dropped.antt). Assumes nothing.
 abbrev pub invariant-loop-c : goal.invariant-loop-c
 invariant-loop-c l = Raising l.i l.heads l.k l.span l.n l.initial.table l.table l.c l.o
-
-abbrev pub decreases-loop-c : goal.decreases-loop-c
-decreases-loop-c l = l.k - l.c

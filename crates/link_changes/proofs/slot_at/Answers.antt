@@ -12,9 +12,6 @@ offset_bounds-table-v c = let P = c.requires in omega (arith, P.head, P.places)
 pub bounds-table-v : goal.bounds-table-v
 bounds-table-v c = let P = c.requires in omega (arith, P.head, P.places)
 
-pub overflow_cast-next : goal.overflow_cast-next
-overflow_cast-next c = omega (arith, c.shared_slice_known-3-1.given c.args.v)
-
 pub loop-next-init : goal.loop-next-init
 loop-next-init c = slotting_start _ _ _ _ _ _ _ _ c.requires
 

@@ -9,26 +9,11 @@ use Rattle.link_changes.proofs.take_cell.Goals as goal
 pub loop-c-init : goal.loop-c-init
 loop-c-init c = leaving_start _ _ _ _ _ _ _ _ c.requires
 
-pub overflow_add-o : goal.overflow_add-o
-overflow_add-o c = omega (arith, leaving_corner _ _ _ _ _ _ _ _ c.requires _ _ _ c.loop-c.invariant c.loop-c-test.true)
-
-pub offset_bounds-corners-o : goal.offset_bounds-corners-o
-offset_bounds-corners-o c = omega (arith, leaving_corner _ _ _ _ _ _ _ _ c.requires _ _ _ c.loop-c.invariant c.loop-c-test.true)
-
 pub bounds-corners-o : goal.bounds-corners-o
 bounds-corners-o c = leaving_corner _ _ _ _ _ _ _ _ c.requires _ _ _ c.loop-c.invariant c.loop-c-test.true
 
 pub take_out-requires : goal.take_out-requires
 take_out-requires c = leaving_room _ _ _ _ _ _ _ _ c.requires _ _ _ c.loop-c.invariant c.loop-c-test.true
-
-pub overflow_add-o-in-loop-c : goal.overflow_add-o-in-loop-c
-overflow_add-o-in-loop-c c = omega (arith, leaving_column _ _ _ _ _ _ _ _ c.requires _ _ _ c.loop-c.invariant c.loop-c-test.true)
-
-pub overflow_add-c : goal.overflow_add-c
-overflow_add-c c = omega (arith, c.loop-c-test.true)
-
-pub loop-c-smaller : goal.loop-c-smaller
-loop-c-smaller c = omega (arith, c.loop-c-test.true)
 
 pub loop-c-preserved : goal.loop-c-preserved
 loop-c-preserved c = leaving_more _ _ _ _ _ _ _ _ c.requires _ _ _ c.loop-c.invariant c.loop-c-test.true _ c.take_out.auto.table c.take_out.ensures

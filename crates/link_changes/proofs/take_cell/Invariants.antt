@@ -9,6 +9,3 @@ use Rattle.link_changes.proofs.take_cell.Given as goal
 -- `link_changes::take_cell` meets its contract: the invariant is the cell out of the chains of the corners passed (`Leaving` of proofs/Dropped.antt). Assumes nothing.
 abbrev pub invariant-loop-c : goal.invariant-loop-c
 invariant-loop-c l = Leaving l.heads l.k l.span l.rows l.n l.i (cell 0 l.rows l.corners) (length l.initial.table) l.table l.c l.o
-
-abbrev pub decreases-loop-c : goal.decreases-loop-c
-decreases-loop-c l = l.k - l.c

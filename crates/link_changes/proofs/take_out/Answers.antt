@@ -9,29 +9,11 @@ use Rattle.link_changes.proofs.take_out.Goals as goal
 pub slot_at-at-requires : goal.slot_at-at-requires
 slot_at-at-requires c = c.requires.slot
 
-pub overflow_mul-own : goal.overflow_mul-own
-overflow_mul-own c = omega (arith, put_in_link _ _ _ _ _ _ _ _ _ c.requires _ c.slot_at-at.ensures)
-
-pub overflow_add-own : goal.overflow_add-own
-overflow_add-own c = omega (arith, put_in_link _ _ _ _ _ _ _ _ _ c.requires _ c.slot_at-at.ensures)
-
-pub overflow_add-own-2 : goal.overflow_add-own-2
-overflow_add-own-2 c = omega (arith, put_in_link _ _ _ _ _ _ _ _ _ c.requires _ c.slot_at-at.ensures)
-
-pub offset_bounds-table-own : goal.offset_bounds-table-own
-offset_bounds-table-own c = omega (arith, put_in_link _ _ _ _ _ _ _ _ _ c.requires _ c.slot_at-at.ensures)
-
 pub bounds-table-own : goal.bounds-table-own
 bounds-table-own c = put_in_link _ _ _ _ _ _ _ _ _ c.requires _ c.slot_at-at.ensures
 
-pub offset_bounds-table-at : goal.offset_bounds-table-at
-offset_bounds-table-at c = omega (arith, put_in_slot _ _ _ _ _ _ _ _ _ c.requires _ c.slot_at-at.ensures)
-
 pub bounds-table-at : goal.bounds-table-at
 bounds-table-at c = put_in_slot _ _ _ _ _ _ _ _ _ c.requires _ c.slot_at-at.ensures
-
-pub offset_bounds-table-own-2 : goal.offset_bounds-table-own-2
-offset_bounds-table-own-2 c = omega (arith, put_in_link _ _ _ _ _ _ _ _ _ c.requires _ c.slot_at-at.ensures)
 
 pub bounds-table-own-2 : goal.bounds-table-own-2
 bounds-table-own-2 c = simp length-set (put_in_link _ _ _ _ _ _ _ _ _ c.requires _ c.slot_at-at.ensures)

@@ -8,9 +8,6 @@ use Rattle.link_changes.proofs.turn_row.Goals as goal
 pub returns-then-w-v : goal.returns-then-w-v
 returns-then-w-v c = turn_kept c.requires c.if-w-v.true
 
-pub nonzero_div-rows : goal.nonzero_div-rows
-nonzero_div-rows c = omega (arith, c.requires.wide)
-
 pub corner_at-c-requires : goal.corner_at-c-requires
 corner_at-c-requires c = turn_row c.requires
 

@@ -10,15 +10,6 @@ use Rattle.link_fans.proofs.Fanned.{Fanning, triangles_of, rows_three, fanning_s
 use Rattle.link_fans.proofs.fan_linked.Goals as goal
 use Rattle.link_fans.proofs.fan_linked.Goals.{else-r-rows, then-r-rows}
 
-pub least-requires : goal.least-requires
-least-requires c = tt
-
-pub least-rows-requires : goal.least-rows-requires
-least-rows-requires c = tt
-
-pub first_at-at-requires : goal.first_at-at-requires
-first_at-at-requires c = omega (arith, c.requires.here, c.requires.room.table)
-
 pub loop-at-init : goal.loop-at-init
 loop-at-init c = fanning_start _ _ _ _ _ _ _ _ _ (c.first_at-at.ensures.is _ _ _ _ _ c.requires.linked c.requires.here)
 
@@ -97,17 +88,11 @@ offset_bounds-volumes-i c = let I = c.loop-at.invariant in let R = rows_three _ 
 pub bounds-volumes-i : goal.bounds-volumes-i
 bounds-volumes-i c = let I = c.loop-at.invariant in let R = rows_three _ _ _ _ _ c.least.ensures c.least-rows.ensures in omega (arith, fanning_within _ _ _ _ _ _ _ _ _ _ _ _ _ c.loop-at.invariant c.loop-at-test.true, c.if-r-rows.true, c.requires.room.rows, c.requires.volumes)
 
-pub abs-requires : goal.abs-requires
-abs-requires c = tt
-
 pub offset_bounds-measures-r : goal.offset_bounds-measures-r
 offset_bounds-measures-r c = let I = c.loop-at.invariant in let R = rows_three _ _ _ _ _ c.least.ensures c.least-rows.ensures in omega (arith, fanning_within _ _ _ _ _ _ _ _ _ _ _ _ _ c.loop-at.invariant c.loop-at-test.true, c.if-r-rows.true, c.requires.room.rows, c.requires.volumes)
 
 pub bounds-measures-r : goal.bounds-measures-r
 bounds-measures-r c = let I = c.loop-at.invariant in let R = rows_three _ _ _ _ _ c.least.ensures c.least-rows.ensures in omega (arith, fanning_within _ _ _ _ _ _ _ _ _ _ _ _ _ c.loop-at.invariant c.loop-at-test.true, c.if-r-rows.true, c.requires.room.rows, c.requires.volumes)
-
-pub overflow_add-r : goal.overflow_add-r
-overflow_add-r c = omega (arith, fanning_few _ _ _ _ _ _ _ _ _ _ _ _ _ c.loop-at.invariant c.loop-at-test.true, c.requires.room.small)
 
 pub next_at-at-requires : goal.next_at-at-requires
 next_at-at-requires c = fanning_link _ _ _ _ _ _ _ _ _ _ _ _ _ c.loop-at.invariant c.loop-at-test.true _ _ _ _ _ refl c.requires.room

@@ -10,32 +10,11 @@ use Rattle.link_fans.proofs.Fanned.{Fanning, straps_of, rows_two, fanning_start,
 use Rattle.link_fans.proofs.straps_linked.Goals as goal
 use Rattle.link_fans.proofs.straps_linked.Goals.{else-ends-c-eq1, else-r-rows, then-ends-c-eq1, then-r-rows}
 
-pub least-requires : goal.least-requires
-least-requires c = tt
-
-pub least-rows-requires : goal.least-rows-requires
-least-rows-requires c = tt
-
-pub first_at-at-requires : goal.first_at-at-requires
-first_at-at-requires c = omega (arith, c.requires.2, c.requires.0.long)
-
 pub loop-at-init : goal.loop-at-init
 loop-at-init c = fanning_start _ _ _ _ _ _ _ _ _ (c.first_at-at.ensures.is _ _ _ _ _ c.requires.0.are c.requires.2)
 
 pub overflow_sub-i : goal.overflow_sub-i
 overflow_sub-i c = c.loop-at-test.true
-
-pub overflow_mul-c : goal.overflow_mul-c
-overflow_mul-c c = omega (arith, fanning_within _ _ _ _ _ _ _ _ _ _ _ _ _ c.loop-at.invariant c.loop-at-test.true, c.requires.0.rows)
-
-pub overflow_add-c : goal.overflow_add-c
-overflow_add-c c = omega (arith, fanning_within _ _ _ _ _ _ _ _ _ _ _ _ _ c.loop-at.invariant c.loop-at-test.true, c.requires.0.rows)
-
-pub offset_bounds-ends-c : goal.offset_bounds-ends-c
-offset_bounds-ends-c c = omega (arith, fanning_within _ _ _ _ _ _ _ _ _ _ _ _ _ c.loop-at.invariant c.loop-at-test.true, c.requires.0.rows)
-
-pub bounds-ends-c : goal.bounds-ends-c
-bounds-ends-c c = omega (arith, fanning_within _ _ _ _ _ _ _ _ _ _ _ _ _ c.loop-at.invariant c.loop-at-test.true, c.requires.0.rows)
 
 pub offset_bounds-numbers-r : goal.offset_bounds-numbers-r
 offset_bounds-numbers-r c = let I = c.loop-at.invariant in let R = rows_two _ _ _ _ _ c.least.ensures c.least-rows.ensures in omega (arith, fanning_within _ _ _ _ _ _ _ _ _ _ _ _ _ c.loop-at.invariant c.loop-at-test.true, c.if-r-rows.true, c.requires.0.rows, c.requires.1)
@@ -94,9 +73,6 @@ offset_bounds-measures-r c = let I = c.loop-at.invariant in let R = rows_two _ _
 pub bounds-measures-r : goal.bounds-measures-r
 bounds-measures-r c = let I = c.loop-at.invariant in let R = rows_two _ _ _ _ _ c.least.ensures c.least-rows.ensures in omega (arith, fanning_within _ _ _ _ _ _ _ _ _ _ _ _ _ c.loop-at.invariant c.loop-at-test.true, c.if-r-rows.true, c.requires.0.rows, c.requires.1)
 
-pub overflow_add-r : goal.overflow_add-r
-overflow_add-r c = omega (arith, fanning_few _ _ _ _ _ _ _ _ _ _ _ _ _ c.loop-at.invariant c.loop-at-test.true, c.requires.0.few)
-
 pub next_at-at-requires : goal.next_at-at-requires
 next_at-at-requires c = let f = c.requires.0.few in fanning_link _ _ _ _ _ _ _ _ _ _ _ _ _ c.loop-at.invariant c.loop-at-test.true _ _ _ _ _ refl (record { cells = c.requires.0.few; rows = c.requires.0.rows; columns = omega arith; table = c.requires.0.long; small = omega arith })
 
@@ -125,3 +101,12 @@ shape_of-measures c = c.loop-at.invariant.measures_long
 
 pub returns : goal.returns
 returns c = straps_put _ _ _ _ _ _ _ _ _ _ _ _ c.loop-at.invariant (omega (arith, c.loop-at-test.false))
+
+pub overflow_add-c : goal.overflow_add-c
+overflow_add-c c = omega (arith, fanning_within _ _ _ _ _ _ _ _ _ _ _ _ _ c.loop-at.invariant c.loop-at-test.true, c.requires.0.rows)
+
+pub offset_bounds-ends-c : goal.offset_bounds-ends-c
+offset_bounds-ends-c c = omega (arith, fanning_within _ _ _ _ _ _ _ _ _ _ _ _ _ c.loop-at.invariant c.loop-at-test.true, c.requires.0.rows)
+
+pub bounds-ends-c : goal.bounds-ends-c
+bounds-ends-c c = omega (arith, fanning_within _ _ _ _ _ _ _ _ _ _ _ _ _ c.loop-at.invariant c.loop-at-test.true, c.requires.0.rows)

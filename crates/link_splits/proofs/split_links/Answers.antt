@@ -15,18 +15,6 @@ bounds-table-v c = let P = c.requires in omega (arith, P.room.table, P.here, P.m
 pub loop-i-init : goal.loop-i-init
 loop-i-init c = split_start _ _ _ _ _ _ _ _ _ _ _ c.requires
 
-pub overflow_sub-i : goal.overflow_sub-i
-overflow_sub-i c = c.loop-i-test.true
-
-pub offset_bounds-numbers-i : goal.offset_bounds-numbers-i
-offset_bounds-numbers-i c = omega (arith, c.loop-i.invariant.below)
-
-pub bounds-numbers-i : goal.bounds-numbers-i
-bounds-numbers-i c = omega (arith, c.loop-i.invariant.below, c.loop-i-test.true)
-
-pub offset_bounds-groups-i : goal.offset_bounds-groups-i
-offset_bounds-groups-i c = omega (arith, c.loop-i.invariant.below)
-
 pub bounds-groups-i : goal.bounds-groups-i
 bounds-groups-i c = split_group _ _ _ _ _ _ _ _ _ _ _ c.requires _ _ c.loop-i.invariant c.loop-i-test.true
 
@@ -68,9 +56,6 @@ offset_bounds-table-w-in-loop-i c = let h = split_head _ _ _ _ _ _ _ _ _ _ _ c.r
 
 pub bounds-table-w-in-loop-i : goal.bounds-table-w-in-loop-i
 bounds-table-w-in-loop-i c = let h = split_head _ _ _ _ _ _ _ _ _ _ _ c.requires _ _ c.loop-i.invariant c.loop-i-test.true in simp length-set (omega (arith, h, c.copy_for-w.ensures))
-
-pub loop-i-smaller : goal.loop-i-smaller
-loop-i-smaller c = omega arith
 
 pub loop-i-preserved : goal.loop-i-preserved
 loop-i-preserved c = split_more _ _ _ _ _ _ _ _ _ _ _ c.requires _ _ c.loop-i.invariant c.loop-i-test.true _ c.corner_at-c.ensures _ c.copy_for-w.ensures

@@ -9,6 +9,3 @@ use Rattle.link_splits.proofs.split_links.Given as goal
 -- `link_splits::split_links` meets its contract: the invariant is the cells of the fan that are linked anew (`Moving` of proofs/Moved.antt). Assumes nothing.
 abbrev pub invariant-loop-i : goal.invariant-loop-i
 invariant-loop-i l = Moving l.v l.before l.k l.n l.heads l.span l.numbers l.groups (cell 0 l.rows l.corners) l.initial.table l.table l.i
-
-abbrev pub decreases-loop-i : goal.decreases-loop-i
-decreases-loop-i l = l.i

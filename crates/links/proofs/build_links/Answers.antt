@@ -7,14 +7,8 @@ use Rattle.links.proofs.build_links.Goals as goal
 pub loop-i-init : goal.loop-i-init
 loop-i-init c = building_start _ _ _ _ _ _ _ c.requires.0 _ c.requires.1 refl
 
-pub overflow_sub-i : goal.overflow_sub-i
-overflow_sub-i c = c.loop-i-test.true
-
 pub link_cell-requires : goal.link_cell-requires
 link_cell-requires c = building_row _ _ _ _ _ _ _ c.requires.0 _ _ c.loop-i.invariant c.loop-i-test.true
-
-pub loop-i-smaller : goal.loop-i-smaller
-loop-i-smaller c = omega arith
 
 pub loop-i-preserved : goal.loop-i-preserved
 loop-i-preserved c = building_more _ _ _ _ _ _ _ c.requires.0 _ _ _ c.loop-i.invariant c.loop-i-test.true c.link_cell.ensures c.link_cell.auto.table

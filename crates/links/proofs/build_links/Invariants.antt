@@ -7,6 +7,3 @@ use Rattle.links.proofs.build_links.Given as goal
 -- `links::build_links` meets its contract: the invariant is the table of the cells passed (`Building` of proofs/Built.antt). Assumes nothing.
 abbrev pub invariant-loop-i : goal.invariant-loop-i
 invariant-loop-i l = Building l.heads l.k l.span l.n (cell 0 l.rows l.corners) (length l.initial.table) l.table l.i
-
-abbrev pub decreases-loop-i : goal.decreases-loop-i
-decreases-loop-i l = l.i

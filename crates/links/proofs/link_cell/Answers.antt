@@ -1,62 +1,23 @@
 -- `links::link_cell` meets its contract: the invariant is the cell linked at the corners passed (`LinkingIn` of proofs/Built.antt). Assumes nothing.
 use native.Mathlib.Omega.{arith}
-use Rattle.links.proofs.Built.{link_start, linking_done, column_in, corner_in, links_in, link_in, head_in, cell_linking}
+use Rattle.links.proofs.Built.{link_start, linking_done, corner_in, link_in, head_in, cell_linking}
 use lib.ListN.{length-set}
 use Rattle.links.proofs.link_cell.Goals as goal
-
-pub overflow_add-own : goal.overflow_add-own
-overflow_add-own c = omega arith
-
-pub overflow_cast-own : goal.overflow_cast-own
-overflow_cast-own c = omega arith
 
 pub loop-c-init : goal.loop-c-init
 loop-c-init c = link_start _ _ _ _ _ _ _
 
-pub overflow_add-w : goal.overflow_add-w
-overflow_add-w c = omega (arith, corner_in _ _ _ _ _ _ _ _ _ _ _ c.loop-c.invariant c.loop-c-test.true c.requires)
-
-pub offset_bounds-corners-o : goal.offset_bounds-corners-o
-offset_bounds-corners-o c = omega (arith, corner_in _ _ _ _ _ _ _ _ _ _ _ c.loop-c.invariant c.loop-c-test.true c.requires)
-
 pub bounds-corners-o : goal.bounds-corners-o
 bounds-corners-o c = corner_in _ _ _ _ _ _ _ _ _ _ _ c.loop-c.invariant c.loop-c-test.true c.requires
-
-pub offset_bounds-table-w : goal.offset_bounds-table-w
-offset_bounds-table-w c = omega (arith, head_in _ _ _ _ _ _ _ _ _ _ _ c.loop-c.invariant c.loop-c-test.true c.requires)
 
 pub bounds-table-w : goal.bounds-table-w
 bounds-table-w c = head_in _ _ _ _ _ _ _ _ _ _ _ c.loop-c.invariant c.loop-c-test.true c.requires
 
-pub overflow_add-table : goal.overflow_add-table
-overflow_add-table c = omega (arith, link_in _ _ _ _ _ _ _ _ _ _ _ c.loop-c.invariant c.loop-c-test.true c.requires)
-
-pub overflow_add-table-in-loop-c : goal.overflow_add-table-in-loop-c
-overflow_add-table-in-loop-c c = omega (arith, link_in _ _ _ _ _ _ _ _ _ _ _ c.loop-c.invariant c.loop-c-test.true c.requires)
-
-pub offset_bounds-table-heads : goal.offset_bounds-table-heads
-offset_bounds-table-heads c = omega (arith, link_in _ _ _ _ _ _ _ _ _ _ _ c.loop-c.invariant c.loop-c-test.true c.requires)
-
 pub bounds-table-heads : goal.bounds-table-heads
 bounds-table-heads c = link_in _ _ _ _ _ _ _ _ _ _ _ c.loop-c.invariant c.loop-c-test.true c.requires
 
-pub offset_bounds-table-w-in-loop-c : goal.offset_bounds-table-w-in-loop-c
-offset_bounds-table-w-in-loop-c c = omega (arith, head_in _ _ _ _ _ _ _ _ _ _ _ c.loop-c.invariant c.loop-c-test.true c.requires)
-
 pub bounds-table-w-in-loop-c : goal.bounds-table-w-in-loop-c
 bounds-table-w-in-loop-c c = simp length-set (head_in _ _ _ _ _ _ _ _ _ _ _ c.loop-c.invariant c.loop-c-test.true c.requires)
-
-pub overflow_add-o : goal.overflow_add-o
-overflow_add-o c = omega (arith, column_in _ _ _ _ _ _ _ _ _ _ _ c.loop-c.invariant c.loop-c-test.true c.requires)
-
-pub overflow_add-l : goal.overflow_add-l
-overflow_add-l c = omega (arith, links_in _ _ _ _ _ _ _ _ _ _ _ c.loop-c.invariant c.loop-c-test.true c.requires)
-
-pub overflow_add-c : goal.overflow_add-c
-overflow_add-c c = omega arith
-
-pub loop-c-smaller : goal.loop-c-smaller
-loop-c-smaller c = omega arith
 
 pub loop-c-preserved : goal.loop-c-preserved
 loop-c-preserved c = cell_linking _ _ _ _ _ _ _ _ _ _ _ c.loop-c.invariant c.loop-c-test.true c.requires
@@ -66,3 +27,9 @@ shape_of-table c = c.loop-c.invariant.linking.long
 
 pub returns : goal.returns
 returns c = linking_done _ _ _ _ _ _ _ _ _ c.loop-c.invariant.linking c.loop-c-test.false
+
+pub offset_bounds-table-w : goal.offset_bounds-table-w
+offset_bounds-table-w c = omega (arith, head_in _ _ _ _ _ _ _ _ _ _ _ c.loop-c.invariant c.loop-c-test.true c.requires)
+
+pub offset_bounds-table-w-in-loop-c : goal.offset_bounds-table-w-in-loop-c
+offset_bounds-table-w-in-loop-c c = omega (arith, head_in _ _ _ _ _ _ _ _ _ _ _ c.loop-c.invariant c.loop-c-test.true c.requires)

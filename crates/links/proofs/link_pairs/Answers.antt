@@ -1,11 +1,6 @@
 -- `links::link_pairs` meets its contract: the room of two columns of w, and the table that is built in it (proofs/Parts.antt). Assumes nothing.
 use Rattle.links.proofs.Parts.{pairs_room, pairs_built}
-use native.Mathlib.Omega.{arith}
 use Rattle.links.proofs.link_pairs.Goals as goal
-
--- `links::link_pairs` meets its contract: the room of two columns of w, and the table that is built in it (proofs/Parts.antt). Assumes nothing.
-pub nonzero_div-rows : goal.nonzero_div-rows
-nonzero_div-rows c = omega (arith, c.requires.0)
 
 pub build_links-requires : goal.build_links-requires
 build_links-requires c = (pairs_room c.requires.0 c.requires.1, c.requires.2)

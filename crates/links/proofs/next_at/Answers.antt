@@ -8,18 +8,6 @@ use Rattle.links.proofs.next_at.Goals as goal
 pub corner_at-c-requires : goal.corner_at-c-requires
 corner_at-c-requires c = c.requires.row
 
-pub overflow_mul-result : goal.overflow_mul-result
-overflow_mul-result c = omega (arith, link_fits _ _ _ _ _ _ _ _ c.requires.linked c.requires.table c.corner_at-c.ensures)
-
-pub overflow_add-result : goal.overflow_add-result
-overflow_add-result c = omega (arith, link_fits _ _ _ _ _ _ _ _ c.requires.linked c.requires.table c.corner_at-c.ensures)
-
-pub overflow_add-result-2 : goal.overflow_add-result-2
-overflow_add-result-2 c = omega (arith, link_fits _ _ _ _ _ _ _ _ c.requires.linked c.requires.table c.corner_at-c.ensures)
-
-pub offset_bounds-table-heads : goal.offset_bounds-table-heads
-offset_bounds-table-heads c = omega (arith, link_fits _ _ _ _ _ _ _ _ c.requires.linked c.requires.table c.corner_at-c.ensures)
-
 pub bounds-table-heads : goal.bounds-table-heads
 bounds-table-heads c = link_fits _ _ _ _ _ _ _ _ c.requires.linked c.requires.table c.corner_at-c.ensures
 

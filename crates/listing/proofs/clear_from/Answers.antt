@@ -6,20 +6,11 @@ use Rattle.listing.proofs.clear_from.Goals as goal
 pub loop-i-init : goal.loop-i-init
 loop-i-init c = clear_start_from _ _
 
-pub bounds-out-i : goal.bounds-out-i
-bounds-out-i c = omega arith
-
-pub overflow_add-i : goal.overflow_add-i
-overflow_add-i c = omega arith
-
-pub loop-i-smaller : goal.loop-i-smaller
-loop-i-smaller c = omega (arith, c.loop-i.invariant.long)
-
 pub loop-i-preserved : goal.loop-i-preserved
-loop-i-preserved c = clear_more_from _ _ _ _ c.loop-i.invariant c.loop-i-test.true
+loop-i-preserved c = clear_more_from _ _ _ _ c.loop-i.invariant (omega arith)
 
 pub shape_of-out : goal.shape_of-out
 shape_of-out c = c.loop-i.invariant.long
 
 pub returns : goal.returns
-returns c = clear_done_from _ _ _ _ c.loop-i.invariant c.loop-i-test.false
+returns c = clear_done_from _ _ _ _ c.loop-i.invariant (omega arith)

@@ -6,4 +6,4 @@ pub returns-in_default : goal.returns-in_default
 returns-in_default c = finish_short _ _ _ c.in_default.is c.clear_from.ensures
 
 pub returns : goal.returns
-returns c = finish_whole _ _ _ _ c.in-Bytes.is c.clear_from-2.ensures
+returns c = finish_whole _ _ _ _ c.in-Some.is c.clear_from-2.ensures

@@ -15,12 +15,6 @@ loop-i-init c = let a = c.args in grow_start (λ k. each (entry_line a.word.now 
 pub put_entry-at-requires : goal.put_entry-at-requires
 put_entry-at-requires c = record { room = omega arith; few = c.requires.few }
 
-pub overflow_add-i : goal.overflow_add-i
-overflow_add-i c = omega arith
-
-pub loop-i-smaller : goal.loop-i-smaller
-loop-i-smaller c = omega arith
-
 pub loop-i-preserved : goal.loop-i-preserved
 loop-i-preserved c = grow_more c.loop-i.invariant c.loop-i-test.true c.put_entry-at.ensures (entries_more _ _ _ _ _) c.put_entry-at.auto.out
 

@@ -9,6 +9,3 @@ use Rattle.listing.proofs.put_entries.Given as goal
 -- `listing::put_entries` meets its contract: one entry more a turn. Assumes nothing.
 abbrev pub invariant-loop-i : goal.invariant-loop-i
 invariant-loop-i l = Growing (λ k. each (entry_line l.word l.kind l.count) (log_at k l.log)) l.entries l.initial.out l.initial.at l.out l.at l.i
-
-abbrev pub decreases-loop-i : goal.decreases-loop-i
-decreases-loop-i l = l.entries - l.i

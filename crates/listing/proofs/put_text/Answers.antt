@@ -9,18 +9,6 @@ use Rattle.listing.proofs.put_text.Goals as goal
 pub loop-i-init : goal.loop-i-init
 loop-i-init c = grow_start (λ k. take k c.args.text.now) _ _ _ refl
 
-pub bounds-text-i : goal.bounds-text-i
-bounds-text-i c = omega arith
-
-pub put_byte-at-requires : goal.put_byte-at-requires
-put_byte-at-requires c = tt
-
-pub overflow_add-i : goal.overflow_add-i
-overflow_add-i c = omega arith
-
-pub loop-i-smaller : goal.loop-i-smaller
-loop-i-smaller c = omega arith
-
 pub loop-i-preserved : goal.loop-i-preserved
 loop-i-preserved c = grow_more c.loop-i.invariant c.loop-i-test.true c.put_byte-at.ensures (front_more _ _ c.loop-i-test.true) c.put_byte-at.auto.out
 

@@ -7,39 +7,12 @@ use lib.ListN.{take}
 use mathlib.Core.Path.{refl, ◌∙◌}
 use Rattle.listing.proofs.put_words.Goals as goal
 
-pub put_text-at-requires : goal.put_text-at-requires
-put_text-at-requires c = tt
-
 pub loop-i-init : goal.loop-i-init
 unfolding each
 loop-i-init c = grow_start (λ k. each spaced (take k c.args.words.now)) _ _ _ refl
 
-pub put_byte-space-requires : goal.put_byte-space-requires
-put_byte-space-requires c = tt
-
-pub offset_bounds-words-i : goal.offset_bounds-words-i
-offset_bounds-words-i c = omega arith
-
-pub bounds-words-i : goal.bounds-words-i
-bounds-words-i c = omega arith
-
-pub overflow_cast-words : goal.overflow_cast-words
-overflow_cast-words c = omega (arith, c.shared_slice_known-in-loop-i-1.given c.loop-i.i)
-
-pub put_number-at-requires : goal.put_number-at-requires
-put_number-at-requires c = tt
-
-pub overflow_add-i : goal.overflow_add-i
-overflow_add-i c = omega arith
-
-pub loop-i-smaller : goal.loop-i-smaller
-loop-i-smaller c = omega arith
-
 pub loop-i-preserved : goal.loop-i-preserved
 loop-i-preserved c = grow_more c.loop-i.invariant c.loop-i-test.true (appends_then c.put_byte-space.ensures c.put_number-at.ensures) (spaced_more _ _ c.loop-i-test.true) (c.put_number-at.auto.out ∙ c.put_byte-space.auto.out)
-
-pub put_byte-requires : goal.put_byte-requires
-put_byte-requires c = tt
 
 pub shape_of-out : goal.shape_of-out
 shape_of-out c = c.put_byte.auto.out ∙ c.loop-i.invariant.long ∙ c.put_text-at.auto.out

@@ -24,8 +24,8 @@ returns-then-mended-n c = few_bytes c.args.s.now c.args.triangles.now c.args.edg
 pub put_sheet-requires : goal.put_sheet-requires
 put_sheet-requires c = record { held = c.requires.held; marked = c.requires.marked; room = room_by _ _ _ (c.byte_len-n.ensures ∙ ap₂ bytes_in c.is_second.ensures (kept_counts c.args.s.now c.args.triangles.now c.args.edges.now c.args.boundary.now c.requires.held c.requires.marked c.counts_in-c.result _ _ _ c.counts_in-c.ensures.is c.staying.ensures c.staying-2.ensures c.staying-3.ensures)) c.if-mended-n.false; zeros = c.requires.zeros }
 
-pub returns-in-Bytes : goal.returns-in-Bytes
-returns-in-Bytes c = let w = wrote_told _ _ _ _ _ c.put_said-told.ensures c.in-Bytes.is in both_fit c.args.s.now c.args.triangles.now c.args.edges.now c.args.boundary.now c.requires.held c.requires.marked (length c.args.mended.now) (length c.args.text.now) _ _ _ (c.byte_len-n.ensures ∙ ap₂ bytes_in c.is_second.ensures (kept_counts c.args.s.now c.args.triangles.now c.args.edges.now c.args.boundary.now c.requires.held c.requires.marked c.counts_in-c.result _ _ _ c.counts_in-c.ensures.is c.staying.ensures c.staying-2.ensures c.staying-3.ensures)) _ c.if-mended-n.false w.0 w.1 c.put_sheet.ensures w.2
+pub returns-in-Some : goal.returns-in-Some
+returns-in-Some c = let w = wrote_told _ _ _ _ _ c.put_said-told.ensures c.in-Some.is in both_fit c.args.s.now c.args.triangles.now c.args.edges.now c.args.boundary.now c.requires.held c.requires.marked (length c.args.mended.now) (length c.args.text.now) _ _ _ (c.byte_len-n.ensures ∙ ap₂ bytes_in c.is_second.ensures (kept_counts c.args.s.now c.args.triangles.now c.args.edges.now c.args.boundary.now c.requires.held c.requires.marked c.counts_in-c.result _ _ _ c.counts_in-c.ensures.is c.staying.ensures c.staying-2.ensures c.staying-3.ensures)) _ c.if-mended-n.false w.0 w.1 c.put_sheet.ensures w.2
 
-pub returns-in-Short : goal.returns-in-Short
-returns-in-Short c = let w = wrote_cut _ _ _ _ c.put_said-told.ensures c.in-Short.is in few_said c.args.s.now c.args.triangles.now c.args.edges.now c.args.boundary.now c.requires.held c.requires.marked (length c.args.mended.now) (length c.args.text.now) _ _ _ (c.byte_len-n.ensures ∙ ap₂ bytes_in c.is_second.ensures (kept_counts c.args.s.now c.args.triangles.now c.args.edges.now c.args.boundary.now c.requires.held c.requires.marked c.counts_in-c.result _ _ _ c.counts_in-c.ensures.is c.staying.ensures c.staying-2.ensures c.staying-3.ensures)) w.0 c.requires.zeros w.1
+pub returns-in-None : goal.returns-in-None
+returns-in-None c = let w = wrote_cut _ _ _ _ c.put_said-told.ensures c.in-None.is in few_said c.args.s.now c.args.triangles.now c.args.edges.now c.args.boundary.now c.requires.held c.requires.marked (length c.args.mended.now) (length c.args.text.now) _ _ _ (c.byte_len-n.ensures ∙ ap₂ bytes_in c.is_second.ensures (kept_counts c.args.s.now c.args.triangles.now c.args.edges.now c.args.boundary.now c.requires.held c.requires.marked c.counts_in-c.result _ _ _ c.counts_in-c.ensures.is c.staying.ensures c.staying-2.ensures c.staying-3.ensures)) w.0 c.requires.zeros w.1

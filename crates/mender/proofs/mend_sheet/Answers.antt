@@ -5,11 +5,11 @@ use mathlib.Core.Path.{sym, ap, ◌∙◌}
 use Prim.Native.Nat.{ℕ, ◌*◌}
 use Rattle.mender.proofs.mend_sheet.Goals as goal
 
-pub returns-then-r-ne0 : goal.returns-then-r-ne0
-returns-then-r-ne0 c = let a = c.args in done_refused a.s.now (length a.mended.now) (length a.text.now) _ _ _ (c.refusal-r.ensures.no c.if-r-ne0.true) c.blank.ensures (cleared _ _ _ c.finish.ensures)
+pub returns-in-Err : goal.returns-in-Err
+returns-in-Err c = let a = c.args in done_refused a.s.now (length a.mended.now) (length a.text.now) _ _ _ (c.refusal-r.ensures.no _ c.in-Err.is) c.blank.ensures (cleared _ _ _ c.finish.ensures)
 
 pub mend_held-requires : goal.mend_held-requires
-mend_held-requires c = (c.refusal-r.ensures.yes c.if-r-ne0.false, c.blank.ensures ∙ ap (λ (n : ℕ). replicate (8 * n) 0) (sym c.blank.auto.s))
+mend_held-requires c = (c.refusal-r.ensures.yes _ c.in-Ok.is, c.blank.ensures ∙ ap (λ (n : ℕ). replicate (8 * n) 0) (sym c.blank.auto.s))
 
-pub returns : goal.returns
-returns c = done_as _ _ _ _ _ _ _ c.blank.auto.s c.mend_held.ensures
+pub returns-in-Ok : goal.returns-in-Ok
+returns-in-Ok c = done_as _ _ _ _ _ _ _ c.blank.auto.s c.mend_held.ensures

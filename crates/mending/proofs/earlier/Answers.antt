@@ -11,42 +11,12 @@ use Rattle.mending.proofs.earlier.Goals as goal
 pub loop-j-init : goal.loop-j-init
 loop-j-init c = (omega arith, search_start _)
 
-pub offset_bounds-a-k : goal.offset_bounds-a-k
-offset_bounds-a-k c = omega arith
-
-pub bounds-a-k : goal.bounds-a-k
-bounds-a-k c = omega arith
-
-pub offset_bounds-b-k : goal.offset_bounds-b-k
-offset_bounds-b-k c = omega arith
-
-pub bounds-b-k : goal.bounds-b-k
-bounds-b-k c = omega arith
-
-pub offset_bounds-a-j : goal.offset_bounds-a-j
-offset_bounds-a-j c = omega arith
-
-pub bounds-a-j : goal.bounds-a-j
-bounds-a-j c = omega arith
-
-pub offset_bounds-b-j : goal.offset_bounds-b-j
-offset_bounds-b-j c = omega arith
-
-pub bounds-b-j : goal.bounds-b-j
-bounds-b-j c = omega arith
-
 pub returns-then-same_ends : goal.returns-then-same_ends
 unfolding earlier_of
 returns-then-same_ends c =
     let a = c.args in
     let l = c.loop-j in
     sym (search_found (λ (i : ℕ). same_ends_of (get_or a.a.now a.k 0) (get_or a.b.now a.k 0) (get_or a.a.now i 0) (get_or a.b.now i 0)) l.j a.k (omega arith) (sym c.same_ends.ensures ∙ c.if-same_ends.true))
-
-pub overflow_add-j : goal.overflow_add-j
-overflow_add-j c = omega arith
-
-pub loop-j-smaller : goal.loop-j-smaller
-loop-j-smaller c = omega arith
 
 pub loop-j-preserved : goal.loop-j-preserved
 loop-j-preserved c =

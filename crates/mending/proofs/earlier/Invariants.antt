@@ -10,6 +10,3 @@ use Rattle.mending.proofs.earlier.Given as goal
 -- `mending::earlier` meets its contract. Assumes nothing.
 abbrev pub invariant-loop-j : goal.invariant-loop-j
 invariant-loop-j l = (l.j ≤ l.k) × (any (λ (i : ℕ). same_ends_of (get_or l.a l.k 0) (get_or l.b l.k 0) (get_or l.a i 0) (get_or l.b i 0)) (up_to l.j) ≡ false)
-
-abbrev pub decreases-loop-j : goal.decreases-loop-j
-decreases-loop-j l = l.k - l.j

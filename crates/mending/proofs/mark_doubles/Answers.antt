@@ -12,24 +12,6 @@ pub loop-i-init : goal.loop-i-init
 unfolding tab
 loop-i-init c = (omega arith, refl, refl, refl)
 
-pub offset_bounds-mask-i : goal.offset_bounds-mask-i
-offset_bounds-mask-i c = omega arith
-
-pub bounds-mask-i : goal.bounds-mask-i
-bounds-mask-i c = omega arith
-
-pub offset_bounds-mask-i-in-loop-i : goal.offset_bounds-mask-i-in-loop-i
-offset_bounds-mask-i-in-loop-i c = omega arith
-
-pub bounds-mask-i-in-loop-i : goal.bounds-mask-i-in-loop-i
-bounds-mask-i-in-loop-i c = omega arith
-
-pub overflow_add-i : goal.overflow_add-i
-overflow_add-i c = omega arith
-
-pub loop-i-smaller : goal.loop-i-smaller
-loop-i-smaller c = omega arith
-
 pub loop-i-preserved : goal.loop-i-preserved
 loop-i-preserved c =
     let a = c.args in

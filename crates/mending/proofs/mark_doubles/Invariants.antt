@@ -10,6 +10,3 @@ use Rattle.mending.proofs.mark_doubles.Given as goal
 abbrev pub invariant-loop-i : goal.invariant-loop-i
 invariant-loop-i l =
     (l.i ≤ length l.a) × (length l.mask ≡ length l.initial.mask) × (drop l.i l.mask ≡ drop l.i l.initial.mask) × (take l.i l.mask ≡ tab l.i (λ (k : ℕ). double_code (get_or l.initial.mask k 0) (earlier_of l.a l.b k)))
-
-abbrev pub decreases-loop-i : goal.decreases-loop-i
-decreases-loop-i l = length l.a - l.i

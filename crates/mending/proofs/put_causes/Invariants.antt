@@ -10,6 +10,3 @@ use Rattle.mending.proofs.put_causes.Given as goal
 -- `mending::put_causes` meets its contract: one mark more a turn. Assumes nothing.
 abbrev pub invariant-loop-i : goal.invariant-loop-i
 invariant-loop-i l = Growing (λ k. each (drop_line l.word) (cause_by 0 (take k l.mask))) (length l.mask) l.initial.out l.initial.at l.out l.at l.i
-
-abbrev pub decreases-loop-i : goal.decreases-loop-i
-decreases-loop-i l = length l.mask - l.i

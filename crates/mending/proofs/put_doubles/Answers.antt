@@ -15,21 +15,6 @@ use Rattle.mending.proofs.put_doubles.Goals as goal
 pub loop-i-init : goal.loop-i-init
 loop-i-init c = let a = c.args in grow_start (λ k. each (drop_line a.word.now) (double_by 0 (take k a.mask.now))) _ _ _ (doubles_start a.word.now)
 
-pub offset_bounds-mask-i : goal.offset_bounds-mask-i
-offset_bounds-mask-i c = omega arith
-
-pub bounds-mask-i : goal.bounds-mask-i
-bounds-mask-i c = omega arith
-
-pub put_double-at-requires : goal.put_double-at-requires
-put_double-at-requires c = tt
-
-pub overflow_add-i : goal.overflow_add-i
-overflow_add-i c = omega arith
-
-pub loop-i-smaller : goal.loop-i-smaller
-loop-i-smaller c = omega arith
-
 pub loop-i-preserved : goal.loop-i-preserved
 loop-i-preserved c =
     let a = c.args in

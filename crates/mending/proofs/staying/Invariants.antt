@@ -8,6 +8,3 @@ use Rattle.mending.proofs.staying.Given as goal
 -- `mending::staying` meets its contract: the count and what is still to come make the whole. Assumes nothing.
 abbrev pub invariant-loop-i : goal.invariant-loop-i
 invariant-loop-i l = (l.i ≤ length l.mask) × (l.n ≤ l.i) × (l.n + zeros_of (drop l.i l.mask) ≡ zeros_of l.mask)
-
-abbrev pub decreases-loop-i : goal.decreases-loop-i
-decreases-loop-i l = length l.mask - l.i

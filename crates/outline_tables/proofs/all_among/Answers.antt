@@ -11,35 +11,14 @@ use Rattle.outline_tables.proofs.all_among.Goals as goal
 pub loop-i-init : goal.loop-i-init
 loop-i-init c = let a = c.args in (omega arith, within_none (sides_at a.m a.q.now) a.p.now)
 
-pub offset_bounds-p-i : goal.offset_bounds-p-i
-offset_bounds-p-i c = omega arith
-
-pub bounds-p-i : goal.bounds-p-i
-bounds-p-i c = omega arith
-
-pub overflow_add-o : goal.overflow_add-o
-overflow_add-o c = omega arith
-
-pub offset_bounds-p-o : goal.offset_bounds-p-o
-offset_bounds-p-o c = omega arith
-
-pub bounds-p-o : goal.bounds-p-o
-bounds-p-o c = omega arith
-
 pub among-requires : goal.among-requires
 among-requires c = c.requires.second
 
-pub overflow_add-i : goal.overflow_add-i
-overflow_add-i c = omega arith
-
-pub loop-i-smaller : goal.loop-i-smaller
-loop-i-smaller c = omega arith
-
 pub loop-i-preserved : goal.loop-i-preserved
-loop-i-preserved c = let a = c.args in let l = c.loop-i in (omega arith, within_on (sides_at a.m a.q.now) a.p.now l.i c.among.result l.invariant.1 c.among.ensures c.if-among.true)
+loop-i-preserved c = let a = c.args in let l = c.loop-i in (omega arith, within_on (sides_at a.m a.q.now) a.p.now l.i c.among.result l.invariant.1 c.among.ensures c.if-not-among.false)
 
-pub returns-else-among : goal.returns-else-among
-returns-else-among c = let a = c.args in let l = c.loop-i in within_not (sides_at a.m a.q.now) a.p.now l.i a.n c.among.result (omega arith) c.among.ensures c.if-among.false
+pub returns-then-not-among : goal.returns-then-not-among
+returns-then-not-among c = let a = c.args in let l = c.loop-i in within_not (sides_at a.m a.q.now) a.p.now l.i a.n c.among.result (omega arith) c.among.ensures c.if-not-among.true
 
 pub returns : goal.returns
 returns c = let a = c.args in let l = c.loop-i in let e : l.i ≡ a.n = omega arith in sym (subst (λ (k : ℕ). within (sides_at k a.p.now) (sides_at a.m a.q.now) ≡ true) e l.invariant.1)

@@ -13,32 +13,8 @@ use Rattle.outline_tables.proofs.among.Goals as goal
 pub loop-i-init : goal.loop-i-init
 loop-i-init c = let a = c.args in (omega arith, among_none (a.x ∷ a.y ∷ []) a.q.now)
 
-pub offset_bounds-q-i : goal.offset_bounds-q-i
-offset_bounds-q-i c = omega arith
-
-pub bounds-q-i : goal.bounds-q-i
-bounds-q-i c = omega arith
-
-pub overflow_add-o : goal.overflow_add-o
-overflow_add-o c = omega arith
-
-pub offset_bounds-q-o : goal.offset_bounds-q-o
-offset_bounds-q-o c = omega arith
-
-pub bounds-q-o : goal.bounds-q-o
-bounds-q-o c = omega arith
-
-pub same_pair-requires : goal.same_pair-requires
-same_pair-requires c = tt
-
 pub returns-then-same_pair : goal.returns-then-same_pair
 returns-then-same_pair c = let a = c.args in let l = c.loop-i in among_here (a.x ∷ a.y ∷ []) a.q.now l.i a.m c.same_pair.result (omega arith) c.same_pair.ensures c.if-same_pair.true
-
-pub overflow_add-i : goal.overflow_add-i
-overflow_add-i c = omega arith
-
-pub loop-i-smaller : goal.loop-i-smaller
-loop-i-smaller c = omega arith
 
 pub loop-i-preserved : goal.loop-i-preserved
 loop-i-preserved c = let a = c.args in let l = c.loop-i in (omega arith, among_on (a.x ∷ a.y ∷ []) a.q.now l.i c.same_pair.result l.invariant.1 c.same_pair.ensures c.if-same_pair.false)

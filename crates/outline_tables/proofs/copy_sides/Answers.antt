@@ -7,27 +7,6 @@ use Rattle.outline_tables.proofs.copy_sides.Goals as goal
 pub loop-i-init : goal.loop-i-init
 loop-i-init c = (omega arith, refl, copy_none _ _)
 
-pub offset_bounds-own-i : goal.offset_bounds-own-i
-offset_bounds-own-i c = omega arith
-
-pub bounds-own-i : goal.bounds-own-i
-bounds-own-i c = omega arith
-
-pub overflow_add-o : goal.overflow_add-o
-overflow_add-o c = omega arith
-
-pub offset_bounds-own-o : goal.offset_bounds-own-o
-offset_bounds-own-o c = omega arith
-
-pub bounds-own-o : goal.bounds-own-o
-bounds-own-o c = omega arith
-
-pub add_side-i-requires : goal.add_side-i-requires
-add_side-i-requires c = omega arith
-
-pub loop-i-smaller : goal.loop-i-smaller
-loop-i-smaller c = omega (arith, c.add_side-i.ensures.count)
-
 pub loop-i-preserved : goal.loop-i-preserved
 loop-i-preserved c = let l = c.loop-i in
     let a = c.args in

@@ -10,33 +10,6 @@ use Rattle.outline_tables.proofs.outline_straps.Goals as goal
 pub loop-i-init : goal.loop-i-init
 loop-i-init c = let a = c.args in (omega arith, omega arith, refl, strap_none a.a.now a.b.now a.c.now a.outline.now)
 
-pub offset_bounds-c-i : goal.offset_bounds-c-i
-offset_bounds-c-i c = omega arith
-
-pub bounds-c-i : goal.bounds-c-i
-bounds-c-i c = omega arith
-
-pub offset_bounds-a-i : goal.offset_bounds-a-i
-offset_bounds-a-i c = omega arith
-
-pub bounds-a-i : goal.bounds-a-i
-bounds-a-i c = omega arith
-
-pub offset_bounds-b-i : goal.offset_bounds-b-i
-offset_bounds-b-i c = omega arith
-
-pub bounds-b-i : goal.bounds-b-i
-bounds-b-i c = omega arith
-
-pub add_side-n-requires : goal.add_side-n-requires
-add_side-n-requires c = omega (arith, c.requires.few)
-
-pub overflow_add-i : goal.overflow_add-i
-overflow_add-i c = omega arith
-
-pub loop-i-smaller : goal.loop-i-smaller
-loop-i-smaller c = omega arith
-
 pub loop-i-preserved : goal.loop-i-preserved
 loop-i-preserved c = let l = c.loop-i in
     let a = c.args in

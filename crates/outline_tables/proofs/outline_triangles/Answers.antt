@@ -9,9 +9,6 @@ use Rattle.outline_tables.proofs.Adding.{faces_turn, faces_none, faces_end}
 use Rattle.outline_tables.proofs.Linking.{none_long, new_room, new_linked}
 use Rattle.outline_tables.proofs.outline_triangles.Goals as goal
 
-pub overflow_mul-m : goal.overflow_mul-m
-overflow_mul-m c = omega (arith, c.at_most-m.ensures.1)
-
 pub link_corners-requires : goal.link_corners-requires
 link_corners-requires c =
     let A = c.args in
@@ -33,12 +30,6 @@ loop-i-init c =
 
 pub add_faces-n-requires : goal.add_faces-n-requires
 add_faces-n-requires c = let L = c.loop-i in (L.invariant.4, L.invariant.5, omega arith, omega (arith, L.invariant.1, L.invariant.4.even.few))
-
-pub overflow_add-i : goal.overflow_add-i
-overflow_add-i c = omega arith
-
-pub loop-i-smaller : goal.loop-i-smaller
-loop-i-smaller c = omega arith
 
 pub loop-i-preserved : goal.loop-i-preserved
 loop-i-preserved c =

@@ -30,18 +30,6 @@ offset_bounds-c-i c = let E = c.requires.0.even in omega (arith, c.requires.0.ev
 pub bounds-c-i : goal.bounds-c-i
 bounds-c-i c = let E = c.requires.0.even in omega (arith, c.requires.0.even.second, c.requires.0.even.third)
 
-pub holds_side-requires : goal.holds_side-requires
-holds_side-requires c = tt
-
-pub overflow_add-n : goal.overflow_add-n
-overflow_add-n c = omega arith
-
-pub overflow_add-i : goal.overflow_add-i
-overflow_add-i c = omega arith
-
-pub loop-i-smaller : goal.loop-i-smaller
-loop-i-smaller c = omega arith
-
 pub loop-i-preserved : goal.loop-i-preserved
 loop-i-preserved c =
     let A = c.args in

@@ -1,24 +1,13 @@
--- `reach::clear` meets its contract. The invariant: the places below i are 0. Assumes nothing.
-use borrow.Author.Rules.{rules}
+-- `reach::clear` meets its contract: the filled front holds 0. Assumes nothing.
 use native.Mathlib.Omega.{arith}
-use mathlib.Core.Path.{◌∙◌, refl}
-use mathlib.Core.Logic.{⊎_elim}
-use native.Mathlib.Nat.{not-suc-le-zero}
-use lib.ListN.{length-set}
-use Rattle.lists.proofs.Stores.{stored}
+use borrow.Author.Rules.{rules}
+use mathlib.Core.Path.{◌≡◌, ◌∙◌}
+use lib.ListN.{length, replicate, take, drop}
+use Rattle.std.proofs.lemmas.List.{get_or_append_left, get_or-replicate}
 use Rattle.reach.proofs.clear.Goals as goal
 
-pub loop-i-init : goal.loop-i-init
-loop-i-init c = (search rules, search rules, refl, λ a l. absurd (not-suc-le-zero l))
-
-pub loop-i-preserved : goal.loop-i-preserved
-loop-i-preserved c =
-    let L = c.loop-i in (
-      search rules,
-      simp length-set (omega arith),
-      length-set L.seen L.i 0 ∙ L.invariant.2,
-      λ a l. ⊎_elim (λ y. y.1) (λ y. y.1 ∙ L.invariant.3 a (omega arith)) (stored L.seen L.i 0 a (search rules)),
-    )
-
 pub returns : goal.returns
-returns c = λ a l. c.loop-i.invariant.3 a (omega arith)
+returns c = λ j l.
+    let long : length (take c.args.n c.args.seen.now) ≡ c.args.n = search rules in
+    let filled : c.fill.new.self ≡ replicate (length (take c.args.n c.args.seen.now)) 0 = c.fill.ensures.after (λ y e. e) in
+    get_or_append_left c.fill.new.self (drop c.args.n c.args.seen.now) 0 j (omega (arith, c.fill.ensures.len, long)) ∙ rw filled (get_or-replicate (length (take c.args.n c.args.seen.now)) j 0 0 (omega (arith, long)))

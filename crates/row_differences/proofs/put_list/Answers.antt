@@ -16,38 +16,20 @@ read_three-requires c = let p = c.requires in record { rows = p.rows; narrow = p
 pub read_three-requires-2 : goal.read_three-requires-2
 read_three-requires-2 c = let p = c.requires in record { rows = p.rows_second; narrow = p.narrow; narrow_third = p.narrow_third; few = p.few_second; first = p.few_second; second = p.few_second; third = p.few_second }
 
-pub slice_bounds-a-end : goal.slice_bounds-a-end
-slice_bounds-a-end c = omega (arith, c.requires.few, c.read_three.auto.a)
-
 pub slice_bounds-put_rows-end : goal.slice_bounds-put_rows-end
 slice_bounds-put_rows-end c = sym (length-take-le _ _ (omega (arith, c.requires.few, c.read_three.auto.a)))
-
-pub slice_bounds-b-end : goal.slice_bounds-b-end
-slice_bounds-b-end c = omega (arith, c.requires.few, c.read_three.auto.b)
 
 pub slice_bounds-put_rows-end-2 : goal.slice_bounds-put_rows-end-2
 slice_bounds-put_rows-end-2 c = sym (length-take-le _ _ (omega (arith, c.requires.few, c.read_three.auto.b)))
 
-pub slice_bounds-c-end : goal.slice_bounds-c-end
-slice_bounds-c-end c = omega (arith, c.requires.few, c.read_three.auto.c)
-
 pub slice_bounds-put_rows-end-3 : goal.slice_bounds-put_rows-end-3
 slice_bounds-put_rows-end-3 c = sym (length-take-le _ _ (omega (arith, c.requires.few, c.read_three.auto.c)))
-
-pub slice_bounds-x-end : goal.slice_bounds-x-end
-slice_bounds-x-end c = omega (arith, c.requires.few_second, c.read_three-2.auto.a)
 
 pub slice_bounds-put_rows-end-4 : goal.slice_bounds-put_rows-end-4
 slice_bounds-put_rows-end-4 c = sym (length-take-le _ _ (omega (arith, c.requires.few_second, c.read_three-2.auto.a)))
 
-pub slice_bounds-y-end : goal.slice_bounds-y-end
-slice_bounds-y-end c = omega (arith, c.requires.few_second, c.read_three-2.auto.b)
-
 pub slice_bounds-put_rows-end-5 : goal.slice_bounds-put_rows-end-5
 slice_bounds-put_rows-end-5 c = sym (length-take-le _ _ (omega (arith, c.requires.few_second, c.read_three-2.auto.b)))
-
-pub slice_bounds-z-end : goal.slice_bounds-z-end
-slice_bounds-z-end c = omega (arith, c.requires.few_second, c.read_three-2.auto.c)
 
 pub slice_bounds-put_rows-end-6 : goal.slice_bounds-put_rows-end-6
 slice_bounds-put_rows-end-6 c = sym (length-take-le _ _ (omega (arith, c.requires.few_second, c.read_three-2.auto.c)))

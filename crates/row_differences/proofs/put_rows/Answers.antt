@@ -3,9 +3,6 @@ use Rattle.row_differences.proofs.Walking.{walk_start, walk_more, walk_done, coo
 use native.Mathlib.Omega.{arith}
 use Rattle.row_differences.proofs.put_rows.Goals as goal
 
-pub longer-n-requires : goal.longer-n-requires
-longer-n-requires c = tt
-
 pub loop-k-init : goal.loop-k-init
 loop-k-init c = walk_start _ _ _ _ _ _
 
@@ -17,12 +14,6 @@ reading-s-requires c = c.requires.second
 
 pub put_place-l-requires : goal.put_place-l-requires
 put_place-l-requires c = let a = c.args in let p = c.requires in let W = c.loop-k.invariant in let L = c.longer-n.ensures in record { first = coords_at a.part a.a.now a.b.now a.c.now _ _ c.reading-r.ensures p.coords; second = coords_at a.part a.x.now a.y.now a.z.now _ _ c.reading-s.ensures p.coords_second; few = omega (arith, c.loop-k.invariant.few, c.loop-k.invariant.below, L.few, p.few, p.few_second, p.counted) }
-
-pub overflow_add-k : goal.overflow_add-k
-overflow_add-k c = omega (arith, c.loop-k-test.true)
-
-pub loop-k-smaller : goal.loop-k-smaller
-loop-k-smaller c = omega (arith, c.loop-k-test.true)
 
 pub loop-k-preserved : goal.loop-k-preserved
 loop-k-preserved c = let a = c.args in walk_more a.part a.a.now a.b.now a.c.now a.x.now a.y.now a.z.now _ _ _ _ _ _ _ _ _ _ c.loop-k.invariant c.loop-k-test.true c.reading-r.ensures c.reading-s.ensures c.put_place-l.ensures c.put_place-l.auto.out

@@ -7,6 +7,3 @@ use Rattle.row_differences.proofs.put_rows.Given as goal
 -- `row_differences::put_rows` meets its contract: one place a turn, to the end of the longer list. Assumes nothing.
 abbrev pub invariant-loop-k : goal.invariant-loop-k
 invariant-loop-k l = Walked l.part (rows_in l.part l.a l.b l.c) (rows_in l.part l.x l.y l.z) l.n l.initial.out l.initial.l l.out l.l l.k
-
-abbrev pub decreases-loop-k : goal.decreases-loop-k
-decreases-loop-k l = l.n - l.k

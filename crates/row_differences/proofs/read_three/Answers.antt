@@ -3,27 +3,11 @@ use Rattle.row_differences.proofs.Walking.{front_taken}
 use native.Mathlib.Omega.{arith}
 use Rattle.row_differences.proofs.read_three.Goals as goal
 
--- `row_differences::read_three` meets its contract: one column behind the other. Assumes nothing.
-pub overflow_add-step : goal.overflow_add-step
-overflow_add-step c = omega (arith, c.requires.narrow)
-
-pub overflow_add-step-2 : goal.overflow_add-step-2
-overflow_add-step-2 c = omega (arith, c.requires.narrow, c.requires.narrow_third)
-
 pub read_column-requires : goal.read_column-requires
 read_column-requires c = let p = c.requires in record { room = omega (arith, p.rows.room); small = omega (arith, p.rows.small); wide = omega arith; narrow = omega (arith, p.narrow); places = p.first }
 
-pub overflow_add-at : goal.overflow_add-at
-overflow_add-at c = omega (arith, c.requires.rows.small, c.requires.narrow)
-
 pub read_column-requires-2 : goal.read_column-requires-2
 read_column-requires-2 c = let p = c.requires in record { room = omega (arith, p.rows.room, p.narrow); small = omega (arith, p.rows.small, p.narrow); wide = omega arith; narrow = omega (arith, p.narrow); places = p.second }
-
-pub overflow_add-at-2 : goal.overflow_add-at-2
-overflow_add-at-2 c = omega (arith, c.requires.rows.small, c.requires.narrow)
-
-pub overflow_add-at-3 : goal.overflow_add-at-3
-overflow_add-at-3 c = omega (arith, c.requires.rows.small, c.requires.narrow)
 
 pub read_column-requires-3 : goal.read_column-requires-3
 read_column-requires-3 c = let p = c.requires in record { room = omega (arith, p.rows.room, p.narrow); small = omega (arith, p.rows.small, p.narrow); wide = omega arith; narrow = omega (arith, p.narrow_third); places = p.third }

@@ -1,6 +1,5 @@
 -- `sheet_fields::all_fit` meets its contract. Assumes nothing.
-use mathlib.Core.Path.{◌≡◌, sym, ◌∙◌}
-use borrow.Author.Rules.{rules}
+use mathlib.Core.Path.{sym, ◌∙◌}
 use Rattle.sheet_fields.proofs.all_fit.Goals as goal
 
 pub returns-then-fits3-3 : goal.returns-then-fits3-3

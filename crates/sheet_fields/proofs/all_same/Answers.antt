@@ -1,7 +1,6 @@
 -- `sheet_fields::all_same` meets its contract. Assumes nothing.
-use mathlib.Core.Path.{◌≡◌, sym, ◌∙◌}
+use mathlib.Core.Path.{sym, ◌∙◌}
 use Rattle.sheet_fields.proofs.WholeLaws.{fields_long}
-use borrow.Author.Rules.{rules}
 use Rattle.sheet_fields.proofs.all_same.Goals as goal
 
 pub returns-then-same3-3 : goal.returns-then-same3-3

@@ -1,5 +1,5 @@
 -- `sheet_fields::field_of` meets its contract. By the tests of the two ends and of the sign. Assumes nothing.
-use mathlib.Core.Path.{◌≡◌, ap, sym, ◌∙◌}
+use mathlib.Core.Path.{ap, sym, ◌∙◌}
 use lib.IntN.{ℤ, pos, negsuc, ◌+ℤ◌, nat_abs}
 use lib.Signed.{lt_z}
 use mir.Syntax.{w64}

@@ -1,7 +1,6 @@
 -- `sheet_fields::fits3` meets its contract. Assumes nothing.
-use mathlib.Core.Path.{◌≡◌, sym, ◌∙◌}
+use mathlib.Core.Path.{sym, ◌∙◌}
 use Rattle.sheet.specs.Sheet.{fit3}
-use borrow.Author.Rules.{rules}
 use Rattle.sheet_fields.proofs.fits3.Goals as goal
 
 pub returns-then-below-2 : goal.returns-then-below-2

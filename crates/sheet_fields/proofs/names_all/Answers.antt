@@ -1,12 +1,8 @@
 -- `sheet_fields::names_all` meets its contract. Assumes nothing.
-use native.Mathlib.Omega.{arith}
-use mathlib.Core.Path.{◌≡◌, ◌∙◌, sym, ap}
-use Prim.Native.Nat.{ℕ, ◌*◌}
-use lib.ListN.{length}
-use Rattle.sheet.specs.Sheet.{Columns, fields_of, sheet_from}
+use mathlib.Core.Path.{◌∙◌, sym}
+use Rattle.sheet.specs.Sheet.{Columns, fields_of}
 use Rattle.sheet.proofs.PutLaws.{names_cols}
 use Rattle.sheet_fields.proofs.WholeLaws.{fields_long}
-use borrow.Author.Rules.{rules}
 use Rattle.sheet_fields.proofs.names_all.Goals as goal
 
 pub returns-then-names_in-2 : goal.returns-then-names_in-2

@@ -1,7 +1,6 @@
 -- `sheet_fields::names_row` meets its contract. Assumes nothing.
-use mathlib.Core.Path.{◌≡◌, sym, ◌∙◌}
-use Rattle.sheet.specs.Sheet.{pair_ok_of, row_ok}
-use borrow.Author.Rules.{rules}
+use mathlib.Core.Path.{sym, ◌∙◌}
+use Rattle.sheet.specs.Sheet.{row_ok}
 use Rattle.sheet_fields.proofs.names_row.Goals as goal
 
 pub returns-then-pair_ok-2 : goal.returns-then-pair_ok-2

@@ -1,7 +1,6 @@
 -- `sheet_fields::particles_fit` meets its contract. Assumes nothing.
-use mathlib.Core.Path.{◌≡◌, sym, ◌∙◌}
+use mathlib.Core.Path.{sym, ◌∙◌}
 use Rattle.sheet.specs.Sheet.{fit3}
-use borrow.Author.Rules.{rules}
 use Rattle.sheet_fields.proofs.particles_fit.Goals as goal
 
 pub returns-then-whole_fit-2 : goal.returns-then-whole_fit-2

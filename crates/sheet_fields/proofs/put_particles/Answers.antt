@@ -1,14 +1,11 @@
 -- `sheet_fields::put_particles` meets its contract. Assumes nothing.
-use borrow.Author.Rules.{rules}
 use native.Mathlib.Omega.{arith}
-use Prim.Native.Nat.{ℕ, ◌-◌, ◌+◌, ◌*◌, ◌^◌, ◌<◌, ◌≤◌}
-use mathlib.Core.Path.{◌≡◌, ◌∙◌, sym, refl, ap}
-use mathlib.Core.List.{List, [], ◌∷◌, map}
+use Prim.Native.Nat.{◌-◌}
+use mathlib.Core.Path.{◌≡◌, ◌∙◌, refl}
+use mathlib.Core.List.{[], ◌∷◌, map}
 use lib.IntN.{pos}
 use lib.ListN.{length, get_or}
-use lib.Seq.{sets}
 use Rattle.bits.specs.Bits.{bits_of}
-use Rattle.bits.specs.Rows.{write_rows, rows_of}
 use Rattle.bits.proofs.RowLaws.{fewer, rows_none}
 use Rattle.sheet.specs.Sheet.{the_field_of, particle_w}
 use Rattle.sheet_fields.proofs.WholeLaws.{fields_long, read_field, row_turn}
@@ -21,37 +18,13 @@ loop-i-init c =
     let f = fields_long c.args.x.now in
     rw e (omega arith, refl, omega (arith, c.requires.room), omega (arith, c.requires.small), refl)
 
-pub offset_bounds-x-i : goal.offset_bounds-x-i
-offset_bounds-x-i c = omega arith
-
-pub bounds-x-i : goal.bounds-x-i
-bounds-x-i c = omega arith
-
-pub offset_bounds-y-i : goal.offset_bounds-y-i
-offset_bounds-y-i c = omega arith
-
-pub bounds-y-i : goal.bounds-y-i
-bounds-y-i c = omega (arith, c.requires.second, fields_long c.args.x.now, fields_long c.args.y.now)
-
-pub offset_bounds-pinned-i : goal.offset_bounds-pinned-i
-offset_bounds-pinned-i c = omega arith
-
-pub bounds-pinned-i : goal.bounds-pinned-i
-bounds-pinned-i c = omega (arith, c.requires.third, fields_long c.args.x.now)
-
 pub put_row-requires : goal.put_row-requires
 put_row-requires c =
     let f = fewer (length c.args.x.now) c.loop-i.i 23 (omega arith) in
     record { room = omega arith; small = omega arith; narrow0 = omega arith; narrow1 = omega arith; narrow2 = omega arith }
 
-pub overflow_add-i : goal.overflow_add-i
-overflow_add-i c = omega arith
-
 pub overflow_add-pos : goal.overflow_add-pos
 overflow_add-pos c = omega (arith, fewer (length c.args.x.now) c.loop-i.i 23 (omega arith))
-
-pub loop-i-smaller : goal.loop-i-smaller
-loop-i-smaller c = omega arith
 
 pub loop-i-preserved : goal.loop-i-preserved
 loop-i-preserved c =
@@ -62,9 +35,6 @@ loop-i-preserved c =
     let t = row_turn a.x.now a.y.now a.pinned.now (bits_of l.s) n l.i l.pos c.field_of-across.result c.field_of-up.result (omega arith)
     (read_field _ (get_or a.x.now l.i (pos 0)) c.field_of-arg-1.given c.field_of-across.ensures) (read_field _ (get_or a.y.now l.i (pos 0)) c.field_of-arg-in-loop-i-1.given c.field_of-up.ensures) in
     (omega arith, c.put_row.auto.s ∙ l.invariant.1, omega arith, omega arith, rw c.put_row.ensures (t ∙ l.invariant.4))
-
-pub shape_of-s : goal.shape_of-s
-shape_of-s c = omega arith
 
 pub returns : goal.returns
 returns c =

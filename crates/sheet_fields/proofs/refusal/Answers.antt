@@ -1,12 +1,9 @@
 -- `sheet_fields::refusal` meets its contract. Assumes nothing.
 use native.Mathlib.Omega.{arith}
-use mathlib.Core.Path.{◌≡◌, ◌∙◌, sym, ap}
-use Prim.Native.Nat.{ℕ, ◌*◌}
-use lib.ListN.{length}
-use Rattle.sheet.specs.Sheet.{Columns, Wholes, fields_of, sheet_from}
+use mathlib.Core.Path.{◌∙◌, sym}
+use Rattle.sheet.specs.Sheet.{Columns, Wholes, fields_of}
 use Rattle.sheet_fields.proofs.WholeLaws.{fields_long, few_whole}
 use Rattle.sheet.proofs.PutLaws.{even_from, not_many, answer_uneven, answer_many, answer_wide, answer_names, answer_long, answer_good}
-use borrow.Author.Rules.{rules}
 use Rattle.sheet_fields.proofs.refusal.Goals as goal
 
 pub returns-then-too_many : goal.returns-then-too_many

@@ -17,12 +17,6 @@ field-requires c = record { room = omega (arith, c.requires.rows.room); narrow =
 pub float_of-requires : goal.float_of-requires
 float_of-requires c = c.field.ensures.1
 
-pub bounds-blade-0 : goal.bounds-blade-0
-bounds-blade-0 c = omega (arith, c.requires.room)
-
-pub overflow_add-at : goal.overflow_add-at
-overflow_add-at c = omega (arith, c.requires.rows.small)
-
 pub field-requires-2 : goal.field-requires-2
 field-requires-2 c = record { room = omega (arith, c.requires.rows.room); narrow = omega arith; small = omega (arith, c.requires.rows.small) }
 
@@ -31,9 +25,6 @@ float_of-requires-2 c = c.field-2.ensures.1
 
 pub bounds-blade-1 : goal.bounds-blade-1
 bounds-blade-1 c = simp length-set (omega (arith, c.requires.room))
-
-pub overflow_add-at-2 : goal.overflow_add-at-2
-overflow_add-at-2 c = omega (arith, c.requires.rows.small)
 
 pub field-requires-3 : goal.field-requires-3
 field-requires-3 c = record { room = omega (arith, c.requires.rows.room); narrow = omega arith; small = omega (arith, c.requires.rows.small) }
@@ -44,9 +35,6 @@ float_of-requires-3 c = c.field-3.ensures.1
 pub bounds-blade-2 : goal.bounds-blade-2
 bounds-blade-2 c = simp length-set (omega (arith, c.requires.room))
 
-pub overflow_add-at-3 : goal.overflow_add-at-3
-overflow_add-at-3 c = omega (arith, c.requires.rows.small)
-
 pub field-requires-4 : goal.field-requires-4
 field-requires-4 c = record { room = omega (arith, c.requires.rows.room); narrow = omega arith; small = omega (arith, c.requires.rows.small) }
 
@@ -56,11 +44,11 @@ float_of-requires-4 c = c.field-4.ensures.1
 pub bounds-blade-3 : goal.bounds-blade-3
 bounds-blade-3 c = simp length-set (omega (arith, c.requires.room))
 
-pub clear_f32-requires : goal.clear_f32-requires
-clear_f32-requires c = simp length-set (omega (arith, c.requires.room))
+pub clear-requires : goal.clear-requires
+clear-requires c = simp length-set (omega (arith, c.requires.room))
 
 pub shape_of-blade : goal.shape_of-blade
-shape_of-blade c = c.clear_f32.auto.s ∙ four_long c.args.blade.now c.float_of.result c.float_of-2.result c.float_of-3.result c.float_of-4.result c.requires.room
+shape_of-blade c = c.clear.auto.s ∙ four_long c.args.blade.now c.float_of.result c.float_of-2.result c.float_of-3.result c.float_of-4.result c.requires.room
 
 pub returns : goal.returns
-returns c = c.clear_f32.ensures ∙ (four_put c.args.blade.now c.float_of.result c.float_of-2.result c.float_of-3.result c.float_of-4.result c.requires.room ∙ (λ i. padded (length c.args.blade.now) zero32 ((c.float_of.ensures ∙ ap the_float_of c.field.ensures.0) i ∷ (c.float_of-2.ensures ∙ ap the_float_of c.field-2.ensures.0) i ∷ (c.float_of-3.ensures ∙ ap the_float_of c.field-3.ensures.0) i ∷ (c.float_of-4.ensures ∙ ap the_float_of c.field-4.ensures.0) i ∷ [])))
+returns c = c.clear.ensures ∙ (four_put c.args.blade.now c.float_of.result c.float_of-2.result c.float_of-3.result c.float_of-4.result c.requires.room ∙ (λ i. padded (length c.args.blade.now) zero32 ((c.float_of.ensures ∙ ap the_float_of c.field.ensures.0) i ∷ (c.float_of-2.ensures ∙ ap the_float_of c.field-2.ensures.0) i ∷ (c.float_of-3.ensures ∙ ap the_float_of c.field-3.ensures.0) i ∷ (c.float_of-4.ensures ∙ ap the_float_of c.field-4.ensures.0) i ∷ [])))

@@ -20,9 +20,6 @@ loop-i-init c = let e : c.args.n - 0 ≡ c.args.n = omega arith in (omega arith,
 pub field-a-requires : goal.field-a-requires
 field-a-requires c = let p = c.requires.rows in record { room = omega (arith, c.requires.rows.room, c.loop-i.invariant.3); narrow = omega arith; small = omega (arith, c.requires.rows.small, c.loop-i.invariant.3) }
 
-pub overflow_add-pos : goal.overflow_add-pos
-overflow_add-pos c = omega (arith, c.requires.rows.small, c.loop-i.invariant.3)
-
 pub field-b-requires : goal.field-b-requires
 field-b-requires c = let p = c.requires.rows in record { room = omega (arith, c.requires.rows.room, c.loop-i.invariant.3); narrow = omega arith; small = omega (arith, c.requires.rows.small, c.loop-i.invariant.3) }
 
@@ -31,23 +28,11 @@ span-w-requires c = let a = c.args in let l = c.loop-i in let w = first_right fa
     let r = two_named false a.p (field_at (bits_of a.s.now) l.pos 10) (field_at (bits_of a.s.now) (l.pos + 10) 10) (field_at (bits_of a.s.now) (l.pos + 20) 10) w.0 in
     (omega (arith, r.0, c.field-a.ensures.0, c.requires.points), omega (arith, r.1, c.field-b.ensures.0, c.requires.points))
 
-pub overflow_add-pos-in-loop-i : goal.overflow_add-pos-in-loop-i
-overflow_add-pos-in-loop-i c = omega (arith, c.requires.rows.small, c.loop-i.invariant.3)
-
 pub field-requires : goal.field-requires
 field-requires c = let p = c.requires.rows in record { room = omega (arith, c.requires.rows.room, c.loop-i.invariant.3); narrow = omega arith; small = omega (arith, c.requires.rows.small, c.loop-i.invariant.3) }
 
 pub append_edge-requires : goal.append_edge-requires
 append_edge-requires c = let q = c.requires.room in let l = c.loop-i in record { ends = omega (arith, c.requires.room.ends, l.invariant.1); lengths = omega (arith, c.requires.room.lengths, l.invariant.2) }
-
-pub overflow_add-i : goal.overflow_add-i
-overflow_add-i c = omega arith
-
-pub overflow_add-pos-in-loop-i-2 : goal.overflow_add-pos-in-loop-i-2
-overflow_add-pos-in-loop-i-2 c = omega (arith, c.requires.rows.small, c.loop-i.invariant.3)
-
-pub loop-i-smaller : goal.loop-i-smaller
-loop-i-smaller c = omega arith
 
 pub loop-i-preserved : goal.loop-i-preserved
 unfolding of_bits

@@ -17,6 +17,3 @@ use Rattle.sheet_rows.proofs.read_edges.Given as goal
 -- `sheet_rows::read_edges` meets its contract. Assumes nothing.
 abbrev pub invariant-loop-i : goal.invariant-loop-i
 invariant-loop-i l = (l.i ≤ l.n) × (length l.ends ≡ length l.initial.ends) × (length l.lengths ≡ length l.initial.lengths) × (l.pos ≡ l.at + l.i * 21) × (ok_at_of false l.p (bits_of l.s) l.pos 21 (l.n - l.i) ≡ true) × (edges_at l.i l.ends l.lengths ≡ tab l.i (edge_bits (place_in l.points) (bits_of l.s) l.at))
-
-abbrev pub decreases-loop-i : goal.decreases-loop-i
-decreases-loop-i l = l.n - l.i

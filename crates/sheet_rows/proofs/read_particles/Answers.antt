@@ -16,29 +16,14 @@ loop-i-init c = (omega arith, refl, refl, omega arith, no_particles _ _ _)
 pub field-x-requires : goal.field-x-requires
 field-x-requires c = let p = c.requires.rows in record { room = omega (arith, c.requires.rows.room, c.loop-i.invariant.3); narrow = omega arith; small = omega (arith, c.requires.rows.small, c.loop-i.invariant.3) }
 
-pub overflow_add-pos : goal.overflow_add-pos
-overflow_add-pos c = omega (arith, c.requires.rows.small, c.loop-i.invariant.3)
-
 pub field-y-requires : goal.field-y-requires
 field-y-requires c = let p = c.requires.rows in record { room = omega (arith, c.requires.rows.room, c.loop-i.invariant.3); narrow = omega arith; small = omega (arith, c.requires.rows.small, c.loop-i.invariant.3) }
-
-pub overflow_add-pos-in-loop-i : goal.overflow_add-pos-in-loop-i
-overflow_add-pos-in-loop-i c = omega (arith, c.requires.rows.small, c.loop-i.invariant.3)
 
 pub field-pinned-requires : goal.field-pinned-requires
 field-pinned-requires c = let p = c.requires.rows in record { room = omega (arith, c.requires.rows.room, c.loop-i.invariant.3); narrow = omega arith; small = omega (arith, c.requires.rows.small, c.loop-i.invariant.3) }
 
 pub put_particle-requires : goal.put_particle-requires
 put_particle-requires c = record { across = c.field-x.ensures.1; up = c.field-y.ensures.1; room = record { points = omega (arith, c.requires.room.points, c.loop-i.invariant.1); roots = omega (arith, c.requires.room.roots, c.loop-i.invariant.2) } }
-
-pub overflow_add-i : goal.overflow_add-i
-overflow_add-i c = omega arith
-
-pub overflow_add-pos-in-loop-i-2 : goal.overflow_add-pos-in-loop-i-2
-overflow_add-pos-in-loop-i-2 c = omega (arith, c.requires.rows.small, c.loop-i.invariant.3)
-
-pub loop-i-smaller : goal.loop-i-smaller
-loop-i-smaller c = omega arith
 
 pub loop-i-preserved : goal.loop-i-preserved
 loop-i-preserved c = let a = c.args in let l = c.loop-i in

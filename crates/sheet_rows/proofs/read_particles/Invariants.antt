@@ -13,6 +13,3 @@ use Rattle.sheet_rows.proofs.read_particles.Given as goal
 -- `sheet_rows::read_particles` meets its contract. Assumes nothing.
 abbrev pub invariant-loop-i : goal.invariant-loop-i
 invariant-loop-i l = (l.i ≤ l.n) × (length l.points ≡ length l.initial.points) × (length l.roots ≡ length l.initial.roots) × (l.pos ≡ l.at + l.i * 23) × (particles_at l.i l.points l.roots ≡ tab l.i (particle_bits (bits_of l.s) l.at))
-
-abbrev pub decreases-loop-i : goal.decreases-loop-i
-decreases-loop-i l = l.n - l.i

@@ -16,23 +16,8 @@ loop-i-init c = (omega arith, refl, omega arith, no_sides _ _)
 pub field-requires : goal.field-requires
 field-requires c = let p = c.requires.rows in record { room = omega (arith, c.requires.rows.room, c.loop-i.invariant.2); narrow = omega arith; small = omega (arith, c.requires.rows.small, c.loop-i.invariant.2) }
 
-pub overflow_add-pos : goal.overflow_add-pos
-overflow_add-pos c = omega (arith, c.requires.rows.small, c.loop-i.invariant.2)
-
 pub field-requires-in-loop-i : goal.field-requires-in-loop-i
 field-requires-in-loop-i c = let p = c.requires.rows in record { room = omega (arith, c.requires.rows.room, c.loop-i.invariant.2); narrow = omega arith; small = omega (arith, c.requires.rows.small, c.loop-i.invariant.2) }
-
-pub put_side-requires : goal.put_side-requires
-put_side-requires c = omega (arith, c.requires.outline, c.loop-i.invariant.1)
-
-pub overflow_add-i : goal.overflow_add-i
-overflow_add-i c = omega arith
-
-pub overflow_add-pos-in-loop-i : goal.overflow_add-pos-in-loop-i
-overflow_add-pos-in-loop-i c = omega (arith, c.requires.rows.small, c.loop-i.invariant.2)
-
-pub loop-i-smaller : goal.loop-i-smaller
-loop-i-smaller c = omega arith
 
 pub loop-i-preserved : goal.loop-i-preserved
 loop-i-preserved c = let a = c.args in let l = c.loop-i in

@@ -13,6 +13,3 @@ use Rattle.sheet_rows.proofs.read_sides.Given as goal
 -- `sheet_rows::read_sides` meets its contract. Assumes nothing.
 abbrev pub invariant-loop-i : goal.invariant-loop-i
 invariant-loop-i l = (l.i ≤ l.n) × (length l.outline ≡ length l.initial.outline) × (l.pos ≡ l.at + l.i * 20) × (boundary_at l.i l.outline ≡ tab l.i (side_bits (bits_of l.s) l.at))
-
-abbrev pub decreases-loop-i : goal.decreases-loop-i
-decreases-loop-i l = l.n - l.i

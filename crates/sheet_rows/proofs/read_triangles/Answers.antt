@@ -20,14 +20,8 @@ loop-i-init c = let e : c.args.n - 0 ≡ c.args.n = omega arith in (omega arith,
 pub field-a-requires : goal.field-a-requires
 field-a-requires c = let p = c.requires.rows in record { room = omega (arith, c.requires.rows.room, c.loop-i.invariant.3); narrow = omega arith; small = omega (arith, c.requires.rows.small, c.loop-i.invariant.3) }
 
-pub overflow_add-pos : goal.overflow_add-pos
-overflow_add-pos c = omega (arith, c.requires.rows.small, c.loop-i.invariant.3)
-
 pub field-b-requires : goal.field-b-requires
 field-b-requires c = let p = c.requires.rows in record { room = omega (arith, c.requires.rows.room, c.loop-i.invariant.3); narrow = omega arith; small = omega (arith, c.requires.rows.small, c.loop-i.invariant.3) }
-
-pub overflow_add-pos-in-loop-i : goal.overflow_add-pos-in-loop-i
-overflow_add-pos-in-loop-i c = omega (arith, c.requires.rows.small, c.loop-i.invariant.3)
 
 pub field-c-requires : goal.field-c-requires
 field-c-requires c = let p = c.requires.rows in record { room = omega (arith, c.requires.rows.room, c.loop-i.invariant.3); narrow = omega arith; small = omega (arith, c.requires.rows.small, c.loop-i.invariant.3) }
@@ -37,15 +31,6 @@ put_triangle-requires c = let a = c.args in let l = c.loop-i in let w = first_ri
     let r = three_named a.p (field_at (bits_of a.s.now) l.pos 10) (field_at (bits_of a.s.now) (l.pos + 10) 10) (field_at (bits_of a.s.now) (l.pos + 20) 10) w.0 in
     let q = c.requires in
     record { first = omega (arith, r.0, c.field-a.ensures.0, q.points); second = omega (arith, r.1, c.field-b.ensures.0, q.points); third = omega (arith, r.2, c.field-c.ensures.0, q.points); corners = omega (arith, q.corners, l.invariant.1); volumes = omega (arith, q.volumes, l.invariant.2) }
-
-pub overflow_add-i : goal.overflow_add-i
-overflow_add-i c = omega arith
-
-pub overflow_add-pos-in-loop-i-2 : goal.overflow_add-pos-in-loop-i-2
-overflow_add-pos-in-loop-i-2 c = omega (arith, c.requires.rows.small, c.loop-i.invariant.3)
-
-pub loop-i-smaller : goal.loop-i-smaller
-loop-i-smaller c = omega arith
 
 pub loop-i-preserved : goal.loop-i-preserved
 loop-i-preserved c = let a = c.args in let l = c.loop-i in let w = first_right true a.p (bits_of a.s.now) l.pos 30 a.n l.i (omega arith) l.invariant.4 in

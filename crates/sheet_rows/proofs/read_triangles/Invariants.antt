@@ -17,6 +17,3 @@ use Rattle.sheet_rows.proofs.read_triangles.Given as goal
 -- `sheet_rows::read_triangles` meets its contract. Assumes nothing.
 abbrev pub invariant-loop-i : goal.invariant-loop-i
 invariant-loop-i l = (l.i ≤ l.n) × (length l.corners ≡ length l.initial.corners) × (length l.volumes ≡ length l.initial.volumes) × (l.pos ≡ l.at + l.i * 30) × (ok_at_of true l.p (bits_of l.s) l.pos 30 (l.n - l.i) ≡ true) × (triangles_at l.i l.corners l.volumes ≡ tab l.i (triangle_bits (place_in l.points) (bits_of l.s) l.at))
-
-abbrev pub decreases-loop-i : goal.decreases-loop-i
-decreases-loop-i l = l.n - l.i

@@ -5,10 +5,6 @@ use Rattle.sheet_rows.proofs.MeshReads.{filled_same, empty_world}
 use borrow.Author.Rules.{rules}
 use Rattle.sheet_rows.proofs.refuse.Goals as goal
 
--- `sheet_rows::refuse` meets its contract. Assumes nothing.
-pub clear_f32-requires : goal.clear_f32-requires
-clear_f32-requires c = omega arith
-
 pub finish_all-requires : goal.finish_all-requires
 finish_all-requires c = record { points = omega arith; roots = omega arith; corners = omega arith; volumes = omega arith; ends = omega arith; lengths = omega arith; outline = omega arith; log = omega arith }
 
@@ -37,7 +33,7 @@ pub shape_of-log : goal.shape_of-log
 shape_of-log c = c.finish_all.auto.log
 
 pub shape_of-blade : goal.shape_of-blade
-shape_of-blade c = c.clear_f32.auto.s
+shape_of-blade c = c.clear.auto.s
 
 pub returns : goal.returns
-returns c = (filled_same _ _ _ _ _ _ _ _ (empty_world _ _ _ _ _ _ _ _) refl c.finish_all.ensures, c.clear_f32.ensures)
+returns c = (filled_same _ _ _ _ _ _ _ _ (empty_world _ _ _ _ _ _ _ _) refl c.finish_all.ensures, c.clear.ensures)

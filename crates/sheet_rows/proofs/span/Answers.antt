@@ -6,4 +6,4 @@ use borrow.Author.Rules.{rules}
 use Rattle.sheet_rows.proofs.span.Goals as goal
 
 pub returns : goal.returns
-returns c = c.length.ensures ∙ ap length_of (c.minus.ensures ∙ ap₂ (λ (p q : Point). minus_of p q) c.place.ensures c.place-2.ensures)
+returns c = c.length.ensures ∙ ap length_of (c.sub.ensures ∙ ap₂ (λ (p q : Point). minus_of p q) c.place.ensures c.place-2.ensures)

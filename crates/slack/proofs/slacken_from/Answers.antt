@@ -9,12 +9,6 @@ loop-j-init c = (omega arith, slack_none _ _ _)
 pub slacken-requires : goal.slacken-requires
 slacken-requires c = record { ends = omega (arith, c.requires.ends); lengths = omega (arith, c.requires.lengths, c.loop-j.invariant.1.long) }
 
-pub overflow_add-j : goal.overflow_add-j
-overflow_add-j c = omega (arith, c.requires.ends)
-
-pub loop-j-smaller : goal.loop-j-smaller
-loop-j-smaller c = omega arith
-
 pub loop-j-preserved : goal.loop-j-preserved
 loop-j-preserved c = (omega arith, slack_more _ _ _ _ _ _ (omega (arith, c.requires.lengths)) c.slacken.auto.lengths c.loop-j.invariant.1 c.slacken.ensures)
 

@@ -27,7 +27,7 @@ loop-i-preserved c = let A = c.args in
       λ M p r lv below.
           elim c.if-w-v.branch [
             | then-w-v w ↦ best_step M A.v A.dir A.g row L.i (best_is L.best) (best_is c.if-w-v.best) _ w.score.result l w.if-w-v.true
-                (score_in M p A.points.now r A.v (get_or row L.i 0) lv (below L.i l) A.home w.rest_point.result w.minus-d.result A.dir w.score.result P.home_is w.rest_point.ensures w.minus-d.ensures w.score.ensures)
+                (score_in M p A.points.now r A.v (get_or row L.i 0) lv (below L.i l) A.home w.rest_point.result w.sub-d.result A.dir w.score.result P.home_is w.rest_point.ensures w.sub-d.ensures w.score.ensures)
                 (ap best_is w.best-is ∙ w.better-best.ensures)
                 (L.invariant.1 M p r lv below)
             | else-w-v w ↦ ap (λ (b : Best). fold (scoring M A.v A.dir A.g) b (besides A.v (drop (L.i + 1) row))) (ap best_is w.best-is)

@@ -20,20 +20,8 @@ overflow_mul-at c = let f = row_fits c.requires.room c.loop-i.i (search rules) i
 pub overflow_add-end : goal.overflow_add-end
 overflow_add-end c = let f = row_fits c.requires.room c.loop-i.i (search rules) in omega arith
 
-pub offset_bounds-groups-i : goal.offset_bounds-groups-i
-offset_bounds-groups-i c = omega (arith, c.requires.room.few)
-
-pub bounds-groups-i : goal.bounds-groups-i
-bounds-groups-i c = omega (arith, c.requires.room.groups)
-
 pub offset_bounds-verts-at : goal.offset_bounds-verts-at
 offset_bounds-verts-at c = let f = row_fits c.requires.room c.loop-i.i (search rules) in omega arith
-
-pub slice_bounds-best_in-count : goal.slice_bounds-best_in-count
-slice_bounds-best_in-count c = omega arith
-
-pub slice_bounds-best_in-start : goal.slice_bounds-best_in-start
-slice_bounds-best_in-start c = omega arith
 
 pub slice_bounds-best_in-end : goal.slice_bounds-best_in-end
 slice_bounds-best_in-end c = let f = row_fits c.requires.room c.loop-i.i (search rules) in omega arith
@@ -43,9 +31,6 @@ best_in-best-requires c = let A = c.args in
     let P = c.requires in
     let i = c.loop-i.i in
     record { home_is = P.home_is; corners_in = row_below A.verts.now P.corners_in i (i * A.k + A.k - i * A.k) (search rules) (omega arith) }
-
-pub overflow_add-i : goal.overflow_add-i
-overflow_add-i c = omega (arith, c.requires.room.few)
 
 pub loop-i-preserved : goal.loop-i-preserved
 loop-i-preserved c = let A = c.args in

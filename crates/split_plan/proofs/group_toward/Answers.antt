@@ -13,6 +13,6 @@ returns c = let A = c.args in
     record {
       is =
           λ O M p R q r lp lx lv b.
-          toward_is O M p A.points.now r A.x A.v q lx lv c.plus-dir.result c.rest_point.result c.rest_point-home.result c.minus.result (best_is c.fan_best.result)
-          c.rest_point-home.ensures c.rest_point.ensures c.minus.ensures c.plus-dir.ensures (c.fan_best.ensures.is O M p R r lv b);
+          toward_is O M p A.points.now r A.x A.v q lx lv c.add-dir.result c.rest_point.result c.rest_point-home.result c.sub.result (best_is c.fan_best.result)
+          c.rest_point-home.ensures c.rest_point.ensures c.sub.ensures c.add-dir.ensures (c.fan_best.ensures.is O M p R r lv b);
     }

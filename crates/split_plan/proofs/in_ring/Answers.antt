@@ -18,9 +18,6 @@ row_has-requires c = row_fits c.requires c.loop-i.i (search rules)
 pub returns-then-row_has : goal.returns-then-row_has
 returns-then-row_has c = record { is = λ O gs R. ring_some O R c.args.x c.loop-i.i (search rules) (sym c.row_has.ensures ∙ c.if-row_has.true) }
 
-pub overflow_add-i : goal.overflow_add-i
-overflow_add-i c = omega (arith, c.requires.few)
-
 pub loop-i-preserved : goal.loop-i-preserved
 loop-i-preserved c = let A = c.args in
     let L = c.loop-i in (

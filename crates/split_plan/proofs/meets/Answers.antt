@@ -18,9 +18,6 @@ loop-i-init c = (search rules, λ O R j l. absurd (omega arith))
 pub row_has-requires : goal.row_has-requires
 row_has-requires c = row_fits c.requires c.loop-i.i (search rules)
 
-pub bounds-groups-i : goal.bounds-groups-i
-bounds-groups-i c = omega (arith, c.requires.groups)
-
 pub ring_has-requires : goal.ring_has-requires
 ring_has-requires c = c.requires
 
@@ -29,9 +26,6 @@ returns-then-ring_has c = let A = c.args in
     let L = c.loop-i in
     let l : L.i < A.n = search rules in
     record { is = λ O R. ring_any O R A.x (λ g. stands g (ring O A.y)) L.i l (sym c.row_has.ensures ∙ c.if-row_has.true) (sym (c.ring_has.ensures.is O R (R.below L.i l)) ∙ c.if-ring_has.true) }
-
-pub overflow_add-i : goal.overflow_add-i
-overflow_add-i c = omega (arith, c.requires.few)
 
 pub loop-i-preserved : goal.loop-i-preserved
 loop-i-preserved c = let A = c.args in

@@ -11,14 +11,8 @@ use Rattle.split_plan.proofs.next_group.Goals.{else-from-g, then-from-g+else-g-b
 pub loop-i-init : goal.loop-i-init
 loop-i-init c = (search rules, least_start _ _ _ _ _ _)
 
-pub bounds-groups-i : goal.bounds-groups-i
-bounds-groups-i c = omega (arith, c.requires.groups)
-
 pub row_has-requires : goal.row_has-requires
 row_has-requires c = row_fits c.requires c.loop-i.i (search rules)
-
-pub overflow_add-i : goal.overflow_add-i
-overflow_add-i c = omega (arith, c.requires.few)
 
 pub loop-i-preserved : goal.loop-i-preserved
 loop-i-preserved c = let A = c.args in

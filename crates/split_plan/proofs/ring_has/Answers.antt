@@ -12,9 +12,6 @@ use Rattle.split_plan.proofs.ring_has.Goals.{else-groups-i, then-groups-i+else-r
 pub loop-i-init : goal.loop-i-init
 loop-i-init c = (search rules, λ j l. absurd (omega arith))
 
-pub bounds-groups-i : goal.bounds-groups-i
-bounds-groups-i c = omega (arith, c.requires.groups)
-
 pub row_has-requires : goal.row_has-requires
 row_has-requires c = row_fits c.requires c.loop-i.i (search rules)
 
@@ -22,9 +19,6 @@ pub returns-then-row_has : goal.returns-then-row_has
 returns-then-row_has c = let A = c.args in
     let L = c.loop-i in
     record { is = λ O R l. sym (ring_made O R A.x A.g L.i (search rules) (record { of = c.if-groups-i.true; holds = sym c.row_has.ensures ∙ c.if-row_has.true })) }
-
-pub overflow_add-i : goal.overflow_add-i
-overflow_add-i c = omega (arith, c.requires.few)
 
 pub loop-i-preserved : goal.loop-i-preserved
 loop-i-preserved c = let A = c.args in

@@ -11,9 +11,6 @@ returns-then-x-of c = none_at _ _ _ _ _ _ _ _ _ _ _ _ _ c.requires.0.yet _ c.if-
 pub returns-then-x-ge-PARTICLES : goal.returns-then-x-ge-PARTICLES
 returns-then-x-ge-PARTICLES c = none_beyond _ _ _ _ _ _ _ _ _ _ _ _ _ c.requires.0.yet _ c.requires.0.by_near.ends_in c.if-x-ge-PARTICLES.true
 
-pub first_at-at-requires : goal.first_at-at-requires
-first_at-at-requires c = omega (arith, c.if-x-ge-PARTICLES.false, c.requires.1.long)
-
 pub loop-at-init : goal.loop-at-init
 loop-at-init c = visiting_start _ _ _ _ _ _ _ _ _ _ _ _ _ _ _ c.requires.0.yet (c.first_at-at.ensures.is _ _ _ _ _ c.requires.1.are (omega (arith, c.if-x-ge-PARTICLES.false)))
 

@@ -25,12 +25,6 @@ offset_bounds-verts-q c = let f = corners_fit (kind_is c.args.kind) c.args.n c.c
 pub bounds-verts-q : goal.bounds-verts-q
 bounds-verts-q c = let f = corners_fit (kind_is c.args.kind) c.args.n c.corners_per.ensures c.requires.0.ring in omega (arith, f, c.loop-q-test.true)
 
-pub overflow_add-q : goal.overflow_add-q
-overflow_add-q c = let f = corners_fit (kind_is c.args.kind) c.args.n c.corners_per.ensures c.requires.0.ring in omega (arith, f, c.loop-q-test.true, c.well_formed.1.1.1.1.1.1.1.0)
-
-pub loop-q-smaller-then-is_walked : goal.loop-q-smaller-then-is_walked
-loop-q-smaller-then-is_walked c = omega (arith, c.loop-q-test.true)
-
 pub loop-q-preserved-then-is_walked : goal.loop-q-preserved-then-is_walked
 loop-q-preserved-then-is_walked c = rounding_passed _ _ _ _ _ _ _ _ _ _ _ _ _ _ _ _ c.loop-q.invariant c.requires.2 _ (subst (WalkTold _ _ _) c.if-is_walked.true c.is_walked.ensures)
 
@@ -42,12 +36,6 @@ bounds-verts-q-in-loop-q c = let f = corners_fit (kind_is c.args.kind) c.args.n 
 
 pub list_edges_at-listed-requires : goal.list_edges_at-listed-requires
 list_edges_at-listed-requires c = let P = c.requires in (rounding_room _ _ _ _ _ _ _ _ _ _ _ _ _ _ _ _ c.loop-q.invariant P.0 (near_room (kind_is c.args.kind) c.args.n c.corners_per.ensures c.mark_corners.ensures P.2 (omega (arith, c.mark_corners.auto.near))) P.3 P.1, P.4)
-
-pub overflow_add-q-in-loop-q : goal.overflow_add-q-in-loop-q
-overflow_add-q-in-loop-q c = let f = corners_fit (kind_is c.args.kind) c.args.n c.corners_per.ensures c.requires.0.ring in omega (arith, f, c.loop-q-test.true, c.well_formed.1.1.1.1.1.1.1.0)
-
-pub loop-q-smaller : goal.loop-q-smaller
-loop-q-smaller c = omega (arith, c.loop-q-test.true)
 
 pub loop-q-preserved : goal.loop-q-preserved
 loop-q-preserved c = rounding_more _ _ _ _ _ _ _ _ _ _ _ _ _ _ _ _ c.loop-q.invariant _ (subst (WalkTold _ _ _) c.if-is_walked.false c.is_walked.ensures) c.is_walked.auto.walked _ _ c.list_edges_at-listed.ensures c.list_edges_at-listed.auto.list

@@ -13,6 +13,3 @@ use Rattle.straddling.proofs.list_straddlers.Given as goal
 -- `straddling::list_straddlers` meets its contract: the loop over the corners is `Rounding` of proofs/ListLaws.antt. Assumes nothing.
 abbrev pub invariant-loop-q : goal.invariant-loop-q
 invariant-loop-q l = Rounding (kind_is l.of.kind) l.of.v l.of.before l.of.n l.of.count l.t l.e l.verts l.groups l.corners l.ends l.initial.list l.list l.listed l.q l.walked
-
-abbrev pub decreases-loop-q : goal.decreases-loop-q
-decreases-loop-q l = l.m - l.q

@@ -9,20 +9,8 @@ use Rattle.straddling.proofs.mark_corners.Goals.{else-x-near, then-x-near}
 pub loop-i-init : goal.loop-i-init
 loop-i-init c = nearing_start _ _ _
 
-pub offset_bounds-verts-i : goal.offset_bounds-verts-i
-offset_bounds-verts-i c = omega (arith, c.loop-i-test.true, c.requires)
-
-pub bounds-verts-i : goal.bounds-verts-i
-bounds-verts-i c = omega (arith, c.loop-i-test.true, c.requires)
-
 pub bounds-near-x : goal.bounds-near-x
 bounds-near-x c = c.if-x-near.true
-
-pub overflow_add-i : goal.overflow_add-i
-overflow_add-i c = omega (arith, c.loop-i-test.true)
-
-pub loop-i-smaller : goal.loop-i-smaller
-loop-i-smaller c = omega (arith, c.loop-i-test.true)
 
 pub loop-i-preserved : goal.loop-i-preserved
 loop-i-preserved c = elim c.if-x-near.branch [

@@ -8,6 +8,3 @@ use Rattle.straddling.proofs.mark_corners.Given as goal
 -- `straddling::mark_corners` meets its contract: the loop over the corners is `Nearing` of proofs/StraddlerLaws.antt. Assumes nothing.
 abbrev pub invariant-loop-i : goal.invariant-loop-i
 invariant-loop-i l = Nearing l.m l.verts l.initial.near l.near l.i
-
-abbrev pub decreases-loop-i : goal.decreases-loop-i
-decreases-loop-i l = l.m - l.i

@@ -12,37 +12,37 @@ pair_now-pair-requires c = let P = c.requires in let A = c.args in (pair_ready A
 
 pub crack_pair-requires : goal.crack_pair-requires
 crack_pair-requires c = let P = c.requires in let A = c.args in
-    let E = edge_below (kind_is A.kind) A.minimum A.a A.b A.k.particles A.k.triangles A.loads.now A.room (world_at A.k A.points.now A.roots.now A.corners.now A.volumes.now A.ends.now A.lengths.now A.outline.now A.log.now) _ c.pair_now-pair.ensures _ _ c.in-Ends.is in
+    let E = edge_below (kind_is A.kind) A.minimum A.a A.b A.k.particles A.k.triangles A.loads.now A.room (world_at A.k A.points.now A.roots.now A.corners.now A.volumes.now A.ends.now A.lengths.now A.outline.now A.log.now) _ c.pair_now-pair.ensures _ _ c.in-Some.is in
     (P.0, P.2, E.0, E.1, P.3, P.4, P.5)
 
 pub returns-in-None : goal.returns-in-None
 returns-in-None c = let P = c.requires in let A = c.args in
     (edge_gone (kind_is A.kind) A.minimum A.a A.b A.k.particles A.k.triangles A.loads.now A.room (world_at A.k A.points.now A.roots.now A.corners.now A.volumes.now A.ends.now A.lengths.now A.outline.now A.log.now) _ c.pair_now-pair.ensures (λ q. world_at q A.points.now A.roots.now A.corners.now A.volumes.now A.ends.now A.lengths.now A.outline.now A.log.now) A.k refl P.0.counts c.in-None.is, P.5)
 
-pub shape_of-points-in-Ends : goal.shape_of-points-in-Ends
-shape_of-points-in-Ends c = c.crack_pair.auto.points
+pub shape_of-points-in-Some : goal.shape_of-points-in-Some
+shape_of-points-in-Some c = c.crack_pair.auto.points
 
-pub shape_of-roots-in-Ends : goal.shape_of-roots-in-Ends
-shape_of-roots-in-Ends c = c.crack_pair.auto.roots
+pub shape_of-roots-in-Some : goal.shape_of-roots-in-Some
+shape_of-roots-in-Some c = c.crack_pair.auto.roots
 
-pub shape_of-corners-in-Ends : goal.shape_of-corners-in-Ends
-shape_of-corners-in-Ends c = c.crack_pair.auto.corners
+pub shape_of-corners-in-Some : goal.shape_of-corners-in-Some
+shape_of-corners-in-Some c = c.crack_pair.auto.corners
 
-pub shape_of-ends-in-Ends : goal.shape_of-ends-in-Ends
-shape_of-ends-in-Ends c = c.crack_pair.auto.ends
+pub shape_of-ends-in-Some : goal.shape_of-ends-in-Some
+shape_of-ends-in-Some c = c.crack_pair.auto.ends
 
-pub shape_of-lengths-in-Ends : goal.shape_of-lengths-in-Ends
-shape_of-lengths-in-Ends c = c.crack_pair.auto.lengths
+pub shape_of-lengths-in-Some : goal.shape_of-lengths-in-Some
+shape_of-lengths-in-Some c = c.crack_pair.auto.lengths
 
-pub shape_of-outline-in-Ends : goal.shape_of-outline-in-Ends
-shape_of-outline-in-Ends c = c.crack_pair.auto.outline
+pub shape_of-outline-in-Some : goal.shape_of-outline-in-Some
+shape_of-outline-in-Some c = c.crack_pair.auto.outline
 
-pub shape_of-log-in-Ends : goal.shape_of-log-in-Ends
-shape_of-log-in-Ends c = c.crack_pair.auto.log
+pub shape_of-log-in-Some : goal.shape_of-log-in-Some
+shape_of-log-in-Some c = c.crack_pair.auto.log
 
 pub shape_of-links : goal.shape_of-links
 shape_of-links c = c.crack_pair.auto.links
 
-pub returns-in-Ends : goal.returns-in-Ends
-returns-in-Ends c = let P = c.requires in let A = c.args in
-    (edge_cracked (kind_is A.kind) A.minimum A.a A.b A.k.particles A.k.triangles A.loads.now A.room (world_at A.k A.points.now A.roots.now A.corners.now A.volumes.now A.ends.now A.lengths.now A.outline.now A.log.now) _ c.pair_now-pair.ensures _ _ c.in-Ends.is _ _ c.crack_pair.ensures.0, c.crack_pair.ensures.1)
+pub returns-in-Some : goal.returns-in-Some
+returns-in-Some c = let P = c.requires in let A = c.args in
+    (edge_cracked (kind_is A.kind) A.minimum A.a A.b A.k.particles A.k.triangles A.loads.now A.room (world_at A.k A.points.now A.roots.now A.corners.now A.volumes.now A.ends.now A.lengths.now A.outline.now A.log.now) _ c.pair_now-pair.ensures _ _ c.in-Some.is _ _ c.crack_pair.ensures.0, c.crack_pair.ensures.1)

@@ -11,10 +11,10 @@ pub way_groups-parts-requires : goal.way_groups-parts-requires
 way_groups-parts-requires c = let P = c.requires in (P.0, omega arith, omega arith, P.1)
 
 pub way_opens-requires : goal.way_opens-requires
-way_opens-requires c = let A = c.args in let P = c.requires in (elements_room A.k A.points.now A.roots.now A.corners.now A.volumes.now A.ends.now A.lengths.now A.outline.now P.0, grouped_room (kind_is A.kind) A.minimum A.v A.w (mesh_at A.k A.points.now A.roots.now A.corners.now A.volumes.now A.ends.now A.lengths.now A.outline.now) _ _ c.way_groups-parts.ensures _ _ c.in-Grouped.is, omega (arith, c.way_groups-parts.auto.sides))
+way_opens-requires c = let A = c.args in let P = c.requires in (elements_room A.k A.points.now A.roots.now A.corners.now A.volumes.now A.ends.now A.lengths.now A.outline.now P.0, grouped_room (kind_is A.kind) A.minimum A.v A.w (mesh_at A.k A.points.now A.roots.now A.corners.now A.volumes.now A.ends.now A.lengths.now A.outline.now) _ _ c.way_groups-parts.ensures _ _ c.in-Some.is, omega (arith, c.way_groups-parts.auto.sides))
 
-pub returns-in-Grouped : goal.returns-in-Grouped
-returns-in-Grouped c = let A = c.args in c.way_opens.ensures ∙ grouped_opens (kind_is A.kind) A.minimum A.v A.w (mesh_at A.k A.points.now A.roots.now A.corners.now A.volumes.now A.ends.now A.lengths.now A.outline.now) _ _ c.way_groups-parts.ensures _ _ c.in-Grouped.is
+pub returns-in-Some : goal.returns-in-Some
+returns-in-Some c = let A = c.args in c.way_opens.ensures ∙ grouped_opens (kind_is A.kind) A.minimum A.v A.w (mesh_at A.k A.points.now A.roots.now A.corners.now A.volumes.now A.ends.now A.lengths.now A.outline.now) _ _ c.way_groups-parts.ensures _ _ c.in-Some.is
 
-pub returns-in-Whole : goal.returns-in-Whole
-returns-in-Whole c = let A = c.args in sym (whole_shut (kind_is A.kind) A.minimum A.v A.w (mesh_at A.k A.points.now A.roots.now A.corners.now A.volumes.now A.ends.now A.lengths.now A.outline.now) _ _ c.way_groups-parts.ensures c.in-Whole.is)
+pub returns-in-None : goal.returns-in-None
+returns-in-None c = let A = c.args in sym (whole_shut (kind_is A.kind) A.minimum A.v A.w (mesh_at A.k A.points.now A.roots.now A.corners.now A.volumes.now A.ends.now A.lengths.now A.outline.now) _ _ c.way_groups-parts.ensures c.in-None.is)

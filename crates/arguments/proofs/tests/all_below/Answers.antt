@@ -6,35 +6,23 @@ use borrow.Author.Tests.{lt-ltb, le-ltb}
 use Rattle.elements.proofs.Measures.{all_on, all_stop, all_end}
 use Rattle.arguments.proofs.tests.all_below.Goals as goal
 
-pub loop-i-init : goal.loop-i-init
-loop-i-init c = (omega arith, refl)
+pub loop-x-init : goal.loop-x-init
+loop-x-init c = (omega arith, refl)
 
-pub offset_bounds-list-i : goal.offset_bounds-list-i
-offset_bounds-list-i c = omega arith
-
-pub bounds-list-i : goal.bounds-list-i
-bounds-list-i c = omega arith
-
-pub returns-then-list-i : goal.returns-then-list-i
-returns-then-list-i c =
-    let L = c.loop-i in
+pub returns-then-x-n : goal.returns-then-x-n
+returns-then-x-n c =
+    let L = c.loop-x in
     let A = c.args in
-    sym (all_stop (λ x. ltb x A.n) A.list.now L.i (omega arith) (le-ltb _ _ c.if-list-i.true)) ∙ L.invariant.1
+    sym (all_stop (λ x. ltb x A.n) A.list.now L.x-index (omega arith) (le-ltb _ _ c.if-x-n.true)) ∙ L.invariant.1
 
-pub overflow_add-i : goal.overflow_add-i
-overflow_add-i c = omega arith
-
-pub loop-i-smaller : goal.loop-i-smaller
-loop-i-smaller c = omega arith
-
-pub loop-i-preserved : goal.loop-i-preserved
-loop-i-preserved c =
-    let L = c.loop-i in
+pub loop-x-preserved : goal.loop-x-preserved
+loop-x-preserved c =
+    let L = c.loop-x in
     let A = c.args in
-    (omega arith, all_on (λ x. ltb x A.n) A.list.now L.i (omega arith) (lt-ltb _ _ c.if-list-i.false) ∙ L.invariant.1)
+    (omega arith, all_on (λ x. ltb x A.n) A.list.now L.x-index (omega arith) (lt-ltb _ _ c.if-x-n.false) ∙ L.invariant.1)
 
 pub returns : goal.returns
 returns c =
-    let L = c.loop-i in
+    let L = c.loop-x in
     let A = c.args in
-    sym (all_end (λ x. ltb x A.n) A.list.now L.i (omega arith)) ∙ L.invariant.1
+    sym (all_end (λ x. ltb x A.n) A.list.now L.x-index (omega arith)) ∙ L.invariant.1

@@ -7,7 +7,4 @@ use Rattle.arguments.proofs.tests.rising.Given as goal
 
 -- `arguments::tests::rising` meets its contract. The invariant: the rest rises exactly where the list does. Assumes nothing.
 abbrev pub invariant-loop-i : goal.invariant-loop-i
-invariant-loop-i l = (l.i ≤ length l.list - 1) × (strictly (drop l.i l.list) ≡ strictly l.list)
-
-abbrev pub decreases-loop-i : goal.decreases-loop-i
-decreases-loop-i l = length l.list - l.i
+invariant-loop-i l = strictly (drop (l.i - 1) l.list) ≡ strictly l.list

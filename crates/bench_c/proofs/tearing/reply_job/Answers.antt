@@ -26,4 +26,4 @@ pub shape_of-log : goal.shape_of-log
 shape_of-log c = c.refuse.auto.log
 
 pub returns : goal.returns
-returns c = let A = c.args in job_unsized A.job A.list.now A.bytes.now A.rooms.now _ _ _ _ _ _ c.image_sized.ensures c.if-image_sized.false c.refuse.ensures
+returns c = let A = c.args in job_unsized A.job A.list.now A.bytes.now A.rooms.now _ _ _ _ _ _ c.image_sized.ensures c.if-image_sized.false (rw c.number.ensures at c.refuse.ensures)

@@ -18,12 +18,6 @@ part_holds-requires c = row_fits c.requires c.loop-i.i c.loop-i-test.true
 pub returns-then-part_holds : goal.returns-then-part_holds
 returns-then-part_holds c = holder_here c.loop-i.invariant.1 c.loop-i-test.true (sym c.part_holds.ensures ∙ c.if-part_holds.true)
 
-pub overflow_add-i : goal.overflow_add-i
-overflow_add-i c = omega (arith, c.requires.few)
-
-pub loop-i-smaller : goal.loop-i-smaller
-loop-i-smaller c = omega arith
-
 pub loop-i-preserved : goal.loop-i-preserved
 loop-i-preserved c = let A = c.args in (omega arith, below_more (λ (j : ℕ). row_holds A.x A.y A.k A.verts.now j ≡ false) c.loop-i.i c.loop-i.invariant.1 (sym c.part_holds.ensures ∙ c.if-part_holds.false))
 

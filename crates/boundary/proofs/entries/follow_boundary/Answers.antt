@@ -13,20 +13,8 @@ cells_at-named-requires c = list_room c.requires.1 (walk_head c.requires.0) c.re
 pub loop-q-init : goal.loop-q-init
 loop-q-init c = (walk_start c.requires.0, c.requires.1, refl, omega arith)
 
-pub offset_bounds-list-q : goal.offset_bounds-list-q
-offset_bounds-list-q c = omega (arith, c.loop-q-test.true, c.cells_at-named.ensures.few, c.requires.1.few)
-
-pub bounds-list-q : goal.bounds-list-q
-bounds-list-q c = omega (arith, c.loop-q-test.true, c.cells_at-named.ensures.few, c.cells_at-named.auto.list, c.requires.2)
-
 pub follow_entry-requires : goal.follow_entry-requires
 follow_entry-requires c = walk_room c.requires.0 c.cells_at-named.ensures (omega (arith, c.cells_at-named.auto.list, c.requires.2)) c.loop-q.invariant.0 c.loop-q-test.true c.loop-q.invariant.1
-
-pub overflow_add-q : goal.overflow_add-q
-overflow_add-q c = omega (arith, c.loop-q-test.true, c.cells_at-named.ensures.few, c.requires.1.few)
-
-pub loop-q-smaller : goal.loop-q-smaller
-loop-q-smaller c = omega (arith, c.loop-q-test.true)
 
 pub loop-q-preserved : goal.loop-q-preserved
 loop-q-preserved c = (

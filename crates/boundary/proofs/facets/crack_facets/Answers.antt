@@ -13,30 +13,24 @@ use Rattle.boundary.proofs.facets.crack_facets.Goals as goal
 pub loop-i-init : goal.loop-i-init
 loop-i-init c = (omega arith, facing_start _ _ _ _ _ _ _ _ _ _ _ _ _ c.requires.1.rows (λ O M t B F. all_start O M), c.requires.3.linked, refl)
 
-pub open_row-grown-requires : goal.open_row-grown-requires
-open_row-grown-requires c = (c.requires.0, record { rows = c.loop-i.invariant.1.most; columns = omega (arith, c.requires.1.columns, c.loop-i.invariant.1.long) }, c.loop-i-test.true, c.requires.2, record { linked = c.loop-i.invariant.2; few = c.requires.3.few })
+pub open_row-requires : goal.open_row-requires
+open_row-requires c = (c.requires.0, record { rows = c.loop-i.invariant.1.most; columns = omega (arith, c.requires.1.columns, c.loop-i.invariant.1.long) }, c.loop-i-test.true, c.requires.2, record { linked = c.loop-i.invariant.2; few = c.requires.3.few })
 
-pub shape_of-outline-in_default : goal.shape_of-outline-in_default
-shape_of-outline-in_default c = c.open_row-grown.auto.outline ∙ c.loop-i.invariant.1.long
+pub shape_of-outline-in_err-rows : goal.shape_of-outline-in_err-rows
+shape_of-outline-in_err-rows c = c.open_row.auto.outline ∙ c.loop-i.invariant.1.long
 
-pub shape_of-table-in_default : goal.shape_of-table-in_default
-shape_of-table-in_default c = c.open_row-grown.auto.table ∙ c.loop-i.invariant.3
+pub shape_of-table-in_err-rows : goal.shape_of-table-in_err-rows
+shape_of-table-in_err-rows c = c.open_row.auto.table ∙ c.loop-i.invariant.3
 
-pub returns-in_default : goal.returns-in_default
-returns-in_default c = let A = c.args in
+pub returns-in_err-rows : goal.returns-in_err-rows
+returns-in_err-rows c = let A = c.args in
     let l = c.loop-i-test.true in
-    (facing_lacks _ _ _ _ _ _ _ _ _ _ _ _ _ _ _ c.loop-i.invariant.1 (row_facets c.loop-i.i) (all_left (c.loop-i.i + 1)) (λ O M t B F. all_cut c.loop-i.i A.n O M F.ringed.size l) _ c.open_row-grown.result c.open_row-grown.ensures.0 c.in_default.is, tt)
-
-pub overflow_add-i : goal.overflow_add-i
-overflow_add-i c = omega (arith, c.loop-i-test.true)
-
-pub loop-i-smaller : goal.loop-i-smaller
-loop-i-smaller c = omega (arith, c.loop-i-test.true)
+    rw c.from_residual.ensures (facing_lacks _ _ _ _ _ _ _ _ _ _ _ _ _ _ _ c.loop-i.invariant.1 (row_facets c.loop-i.i) (all_left (c.loop-i.i + 1)) (λ O M t B F. all_cut c.loop-i.i A.n O M F.ringed.size l) _ c.open_row.result c.open_row.ensures.0 c.in_err-rows.was, tt)
 
 pub loop-i-preserved : goal.loop-i-preserved
 loop-i-preserved c = let A = c.args in
     let l = c.loop-i-test.true in
-    (omega (arith, c.loop-i-test.true), facing_step _ _ _ _ _ _ _ _ _ _ _ _ _ _ _ c.loop-i.invariant.1 (row_facets c.loop-i.i) (all_left (c.loop-i.i + 1)) (λ O M t B F. all_cut c.loop-i.i A.n O M F.ringed.size l) _ c.open_row-grown.result c.open_row-grown.ensures.0 _ c.in-Rows.is c.open_row-grown.auto.outline, linked_rows c.in-Rows.is c.open_row-grown.ensures.1, c.open_row-grown.auto.table ∙ c.loop-i.invariant.3)
+    (omega (arith, c.loop-i-test.true), facing_step _ _ _ _ _ _ _ _ _ _ _ _ _ _ _ c.loop-i.invariant.1 (row_facets c.loop-i.i) (all_left (c.loop-i.i + 1)) (λ O M t B F. all_cut c.loop-i.i A.n O M F.ringed.size l) _ c.open_row.result c.open_row.ensures.0 _ c.in_ok-rows.was c.open_row.auto.outline, linked_rows c.in_ok-rows.was c.open_row.ensures.1, c.open_row.auto.table ∙ c.loop-i.invariant.3)
 
 pub shape_of-outline : goal.shape_of-outline
 shape_of-outline c = c.loop-i.invariant.1.long

@@ -4,30 +4,6 @@ use native.Mathlib.Omega.{arith}
 use borrow.Author.Rules.{rules}
 use Rattle.boundary.proofs.facets.face_of.Goals as goal
 
-pub offset_bounds-corners-t : goal.offset_bounds-corners-t
-offset_bounds-corners-t c = omega (arith, c.requires.0.numbers_in _ c.requires.3)
-
-pub bounds-corners-t : goal.bounds-corners-t
-bounds-corners-t c = omega (arith, c.requires.0.numbers_in _ c.requires.3)
-
-pub overflow_add-c : goal.overflow_add-c
-overflow_add-c c = omega (arith, c.requires.0.numbers_in _ c.requires.3)
-
-pub offset_bounds-corners-c : goal.offset_bounds-corners-c
-offset_bounds-corners-c c = omega (arith, c.requires.0.numbers_in _ c.requires.3)
-
-pub bounds-corners-c : goal.bounds-corners-c
-bounds-corners-c c = omega (arith, c.requires.0.numbers_in _ c.requires.3)
-
-pub overflow_add-c-2 : goal.overflow_add-c-2
-overflow_add-c-2 c = omega (arith, c.requires.0.numbers_in _ c.requires.3)
-
-pub offset_bounds-corners-c-2 : goal.offset_bounds-corners-c-2
-offset_bounds-corners-c-2 c = omega (arith, c.requires.0.numbers_in _ c.requires.3)
-
-pub bounds-corners-c-2 : goal.bounds-corners-c-2
-bounds-corners-c-2 c = omega (arith, c.requires.0.numbers_in _ c.requires.3)
-
 pub first_face-requires : goal.first_face-requires
 first_face-requires c = c.requires.4 _ c.requires.3
 

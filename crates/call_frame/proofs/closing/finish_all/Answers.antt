@@ -11,12 +11,6 @@ pub finish_all-requires : goal.finish_all-requires
 finish_all-requires c = let P = c.requires in
     record { points = P.points; roots = P.roots; corners = P.corners; volumes = P.volumes; ends = P.ends; lengths = P.lengths; outline = P.outline; log = omega arith }
 
-pub overflow_mul-k : goal.overflow_mul-k
-overflow_mul-k c = omega (arith, c.requires.log, c.well_formed.1.1.1.1.1.1.1.1)
-
-pub clear_words-requires : goal.clear_words-requires
-clear_words-requires c = omega (arith, c.requires.log)
-
 pub shape_of-points : goal.shape_of-points
 shape_of-points c = c.finish_all.auto.points
 
@@ -39,7 +33,7 @@ pub shape_of-outline : goal.shape_of-outline
 shape_of-outline c = c.finish_all.auto.outline
 
 pub shape_of-log : goal.shape_of-log
-shape_of-log c = c.clear_words.auto.log
+shape_of-log c = c.clear.auto.s
 
 pub returns : goal.returns
 unfolding world_at mesh_at log_at
@@ -53,5 +47,5 @@ returns c =
       ends = F.ends;
       lengths = F.lengths;
       outline = F.outline;
-      log = c.clear_words.ensures ∙ ap (padded _ 0) (words_of_lem _ _ (omega (arith, c.requires.log)));
+      log = c.clear.ensures ∙ ap (padded _ 0) (words_of_lem _ _ (omega (arith, c.requires.log)));
     }

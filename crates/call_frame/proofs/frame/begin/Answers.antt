@@ -1,20 +1,19 @@
--- `call_frame::frame::begin` meets its contract: a refusal that is there, the room that lacks, or the copy. Assumes nothing.
+-- `call_frame::frame::begin` meets its contract: the room that lacks, or the copy. Assumes nothing.
+use mathlib.Core.Path.{refl, ◌∙◌}
 use Rattle.mesh.specs.Given.{given, mesh_of}
-use Rattle.call_frame.proofs.Begun.{copy_asked, begun_refused, begun_lacking, begun_copied}
+use Rattle.mesh.proofs.Refused.{refusal_handed, handed_some}
+use Rattle.call_frame.proofs.Begun.{copy_asked, begun_lacking, begun_copied}
 use Rattle.call_frame.proofs.frame.begin.Goals as goal
 
--- `call_frame::frame::begin` meets its contract: a refusal that is there, the room that lacks, or the copy. Assumes nothing.
-pub returns-then-code-ne0 : goal.returns-then-code-ne0
-returns-then-code-ne0 c = begun_refused _ _ _ _ c.if-code-ne0.true
-
-pub returns-then-lack-ne0 : goal.returns-then-lack-ne0
-returns-then-lack-ne0 c =
+pub returns-in_err-lacking : goal.returns-in_err-lacking
+returns-in_err-lacking c =
     let A = c.args in
-    begun_lacking _ _ (given A.in_points.now A.in_roots.now A.in_corners.now A.in_volumes.now A.in_ends.now A.in_lengths.now A.in_outline.now) _ _ c.if-code-ne0.false c.lacking-lack.ensures c.if-lack-ne0.true
+    let h = c.from_residual.ensures.1 in
+    begun_lacking 0 _ (given A.in_points.now A.in_roots.now A.in_corners.now A.in_volumes.now A.in_ends.now A.in_lengths.now A.in_outline.now) _ _ refl (refusal_handed _ _ h ∙ c.in_err-lacking.ensures) (handed_some _ _ h)
 
 pub copy_all-requires : goal.copy_all-requires
 copy_all-requires c = let asked = (let A = c.args in
-    copy_asked _ (given A.in_points.now A.in_roots.now A.in_corners.now A.in_volumes.now A.in_ends.now A.in_lengths.now A.in_outline.now) _ _ _ c.requires c.if-code-ne0.false c.lacking-lack.ensures c.if-lack-ne0.false) in record { fits = asked.0; holds = asked.1 }
+    copy_asked (given A.in_points.now A.in_roots.now A.in_corners.now A.in_volumes.now A.in_ends.now A.in_lengths.now A.in_outline.now) _ _ 0 c.requires c.in_ok-lacking.ensures refl) in record { fits = asked.0; holds = asked.1 }
 
 pub shape_of-points : goal.shape_of-points
 shape_of-points c = c.copy_all.auto.points
@@ -41,4 +40,4 @@ pub returns : goal.returns
 unfolding mesh_of
 returns c =
     let A = c.args in
-    begun_copied _ _ (given A.in_points.now A.in_roots.now A.in_corners.now A.in_volumes.now A.in_ends.now A.in_lengths.now A.in_outline.now) _ _ c.if-code-ne0.false c.lacking-lack.ensures c.if-lack-ne0.false c.copy_all.ensures
+    begun_copied 0 _ (given A.in_points.now A.in_roots.now A.in_corners.now A.in_volumes.now A.in_ends.now A.in_lengths.now A.in_outline.now) _ 0 refl c.in_ok-lacking.ensures refl c.copy_all.ensures

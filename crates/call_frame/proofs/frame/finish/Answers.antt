@@ -7,65 +7,65 @@ pub finish_all-requires : goal.finish_all-requires
 finish_all-requires c = none_fits _
 
 pub changed-any-requires : goal.changed-any-requires
-changed-any-requires c = (ended_fits _ _ _ c.requires c.in-Done.is).log
+changed-any-requires c = (ended_fits _ _ _ c.requires c.in-Ok.is).log
 
-pub finish_all-requires-in-Done : goal.finish_all-requires-in-Done
-finish_all-requires-in-Done c = ended_fits _ _ _ c.requires c.in-Done.is
+pub finish_all-requires-in-Ok : goal.finish_all-requires-in-Ok
+finish_all-requires-in-Ok c = ended_fits _ _ _ c.requires c.in-Ok.is
 
-pub shape_of-points-in-Refused : goal.shape_of-points-in-Refused
-shape_of-points-in-Refused c = c.finish_all.auto.points
+pub shape_of-points-in-Err : goal.shape_of-points-in-Err
+shape_of-points-in-Err c = c.finish_all.auto.points
 
-pub shape_of-roots-in-Refused : goal.shape_of-roots-in-Refused
-shape_of-roots-in-Refused c = c.finish_all.auto.roots
+pub shape_of-roots-in-Err : goal.shape_of-roots-in-Err
+shape_of-roots-in-Err c = c.finish_all.auto.roots
 
-pub shape_of-corners-in-Refused : goal.shape_of-corners-in-Refused
-shape_of-corners-in-Refused c = c.finish_all.auto.corners
+pub shape_of-corners-in-Err : goal.shape_of-corners-in-Err
+shape_of-corners-in-Err c = c.finish_all.auto.corners
 
-pub shape_of-volumes-in-Refused : goal.shape_of-volumes-in-Refused
-shape_of-volumes-in-Refused c = c.finish_all.auto.volumes
+pub shape_of-volumes-in-Err : goal.shape_of-volumes-in-Err
+shape_of-volumes-in-Err c = c.finish_all.auto.volumes
 
-pub shape_of-ends-in-Refused : goal.shape_of-ends-in-Refused
-shape_of-ends-in-Refused c = c.finish_all.auto.ends
+pub shape_of-ends-in-Err : goal.shape_of-ends-in-Err
+shape_of-ends-in-Err c = c.finish_all.auto.ends
 
-pub shape_of-lengths-in-Refused : goal.shape_of-lengths-in-Refused
-shape_of-lengths-in-Refused c = c.finish_all.auto.lengths
+pub shape_of-lengths-in-Err : goal.shape_of-lengths-in-Err
+shape_of-lengths-in-Err c = c.finish_all.auto.lengths
 
-pub shape_of-outline-in-Refused : goal.shape_of-outline-in-Refused
-shape_of-outline-in-Refused c = c.finish_all.auto.outline
+pub shape_of-outline-in-Err : goal.shape_of-outline-in-Err
+shape_of-outline-in-Err c = c.finish_all.auto.outline
 
-pub shape_of-log-in-Refused : goal.shape_of-log-in-Refused
-shape_of-log-in-Refused c = c.finish_all.auto.log
+pub shape_of-log-in-Err : goal.shape_of-log-in-Err
+shape_of-log-in-Err c = c.finish_all.auto.log
 
-pub returns-in-Refused : goal.returns-in-Refused
-returns-in-Refused c =
+pub returns-in-Err : goal.returns-in-Err
+returns-in-Err c =
     let A = c.args in
-    finished_refused A.points.now A.roots.now A.corners.now A.volumes.now A.ends.now A.lengths.now A.outline.now A.log.now _ _ _ _ _ _ _ _ _ _ _ c.in-Refused.is c.finish_all.ensures
+    finished_refused A.points.now A.roots.now A.corners.now A.volumes.now A.ends.now A.lengths.now A.outline.now A.log.now _ _ _ _ _ _ _ _ _ _ _ c.in-Err.is c.finish_all.ensures
 
-pub shape_of-points-in-Done : goal.shape_of-points-in-Done
-shape_of-points-in-Done c = c.finish_all-in-Done.auto.points
+pub shape_of-points-in-Ok : goal.shape_of-points-in-Ok
+shape_of-points-in-Ok c = c.finish_all-in-Ok.auto.points
 
-pub shape_of-roots-in-Done : goal.shape_of-roots-in-Done
-shape_of-roots-in-Done c = c.finish_all-in-Done.auto.roots
+pub shape_of-roots-in-Ok : goal.shape_of-roots-in-Ok
+shape_of-roots-in-Ok c = c.finish_all-in-Ok.auto.roots
 
-pub shape_of-corners-in-Done : goal.shape_of-corners-in-Done
-shape_of-corners-in-Done c = c.finish_all-in-Done.auto.corners
+pub shape_of-corners-in-Ok : goal.shape_of-corners-in-Ok
+shape_of-corners-in-Ok c = c.finish_all-in-Ok.auto.corners
 
-pub shape_of-volumes-in-Done : goal.shape_of-volumes-in-Done
-shape_of-volumes-in-Done c = c.finish_all-in-Done.auto.volumes
+pub shape_of-volumes-in-Ok : goal.shape_of-volumes-in-Ok
+shape_of-volumes-in-Ok c = c.finish_all-in-Ok.auto.volumes
 
-pub shape_of-ends-in-Done : goal.shape_of-ends-in-Done
-shape_of-ends-in-Done c = c.finish_all-in-Done.auto.ends
+pub shape_of-ends-in-Ok : goal.shape_of-ends-in-Ok
+shape_of-ends-in-Ok c = c.finish_all-in-Ok.auto.ends
 
-pub shape_of-lengths-in-Done : goal.shape_of-lengths-in-Done
-shape_of-lengths-in-Done c = c.finish_all-in-Done.auto.lengths
+pub shape_of-lengths-in-Ok : goal.shape_of-lengths-in-Ok
+shape_of-lengths-in-Ok c = c.finish_all-in-Ok.auto.lengths
 
-pub shape_of-outline-in-Done : goal.shape_of-outline-in-Done
-shape_of-outline-in-Done c = c.finish_all-in-Done.auto.outline
+pub shape_of-outline-in-Ok : goal.shape_of-outline-in-Ok
+shape_of-outline-in-Ok c = c.finish_all-in-Ok.auto.outline
 
-pub shape_of-log-in-Done : goal.shape_of-log-in-Done
-shape_of-log-in-Done c = c.finish_all-in-Done.auto.log
+pub shape_of-log-in-Ok : goal.shape_of-log-in-Ok
+shape_of-log-in-Ok c = c.finish_all-in-Ok.auto.log
 
-pub returns-in-Done : goal.returns-in-Done
-returns-in-Done c =
+pub returns-in-Ok : goal.returns-in-Ok
+returns-in-Ok c =
     let A = c.args in
-    finished_done A.points.now A.roots.now A.corners.now A.volumes.now A.ends.now A.lengths.now A.outline.now A.log.now _ _ _ _ _ _ _ _ _ _ _ _ c.in-Done.is c.changed-any.ensures c.finish_all-in-Done.ensures
+    finished_done A.points.now A.roots.now A.corners.now A.volumes.now A.ends.now A.lengths.now A.outline.now A.log.now _ _ _ _ _ _ _ _ _ _ _ _ c.in-Ok.is c.changed-any.ensures c.finish_all-in-Ok.ensures

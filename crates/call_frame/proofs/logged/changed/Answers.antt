@@ -8,24 +8,9 @@ use Rattle.call_frame.proofs.logged.changed.Goals as goal
 pub loop-i-init : goal.loop-i-init
 loop-i-init c = (any_none _ _, omega arith)
 
-pub overflow_mul-i : goal.overflow_mul-i
-overflow_mul-i c = omega arith
-
-pub offset_bounds-log-i : goal.offset_bounds-log-i
-offset_bounds-log-i c = omega arith
-
-pub bounds-log-i : goal.bounds-log-i
-bounds-log-i c = omega arith
-
 pub returns-then-kind_changes : goal.returns-then-kind_changes
 unfolding log_at
 returns-then-kind_changes c = sym (any_stops _ _ _ _ c.loop-i-test.true (sym c.kind_changes.ensures ∙ c.if-kind_changes.true))
-
-pub overflow_add-i : goal.overflow_add-i
-overflow_add-i c = omega arith
-
-pub loop-i-smaller : goal.loop-i-smaller
-loop-i-smaller c = omega arith
 
 pub loop-i-preserved : goal.loop-i-preserved
 loop-i-preserved c = (any_more _ _ _ c.loop-i.invariant.0 (sym c.kind_changes.ensures ∙ c.if-kind_changes.false), omega arith)

@@ -6,26 +6,8 @@ use native.Mathlib.Omega.{arith}
 use Prim.Native.Nat.{◌-◌}
 use Rattle.copies.proofs.particles.copy_particles.Goals as goal
 
-pub overflow_mul-mass : goal.overflow_mul-mass
-overflow_mul-mass c = omega (arith, c.requires.points, c.requires.here)
-
-pub overflow_add-mass : goal.overflow_add-mass
-overflow_add-mass c = omega (arith, c.requires.points, c.requires.here)
-
-pub offset_bounds-points-size : goal.offset_bounds-points-size
-offset_bounds-points-size c = omega (arith, c.requires.points, c.requires.here)
-
-pub bounds-points-size : goal.bounds-points-size
-bounds-points-size c = omega (arith, c.requires.points, c.requires.here)
-
-pub overflow_sub-copies : goal.overflow_sub-copies
-overflow_sub-copies c = omega (arith, c.requires.two)
-
 pub loop-g-init : goal.loop-g-init
 loop-g-init c = copying_start _ _ _ _ _ _ _ _ _
-
-pub overflow_add-g : goal.overflow_add-g
-overflow_add-g c = omega (arith, c.requires.few)
 
 pub weight_of-own-requires : goal.weight_of-own-requires
 weight_of-own-requires c = (c.requires.groups_long, c.requires.measures_long)
@@ -33,20 +15,11 @@ weight_of-own-requires c = (c.requires.groups_long, c.requires.measures_long)
 pub mass_of-m-requires : goal.mass_of-m-requires
 mass_of-m-requires c = c.requires.few
 
-pub overflow_add-at : goal.overflow_add-at
-overflow_add-at c = omega (arith, c.requires.points, c.requires.few)
-
 pub append_copy-requires : goal.append_copy-requires
 append_copy-requires c = let R = c.requires in
     let L = c.loop-g.invariant in
     let l = c.loop-g-test.true in
     (omega (arith, R.here), record { points = omega (arith, c.loop-g.invariant.points_long, R.points, l); roots = omega (arith, c.loop-g.invariant.roots_long, R.roots, l) })
-
-pub overflow_add-g-in-loop-g : goal.overflow_add-g-in-loop-g
-overflow_add-g-in-loop-g c = omega (arith, c.requires.few)
-
-pub loop-g-smaller : goal.loop-g-smaller
-loop-g-smaller c = omega arith
 
 pub loop-g-preserved : goal.loop-g-preserved
 loop-g-preserved c = copying_more _ _ _ _ _ _ _ _ _ _ _ _ _ _ _ _ _ c.loop-g.invariant c.requires.here c.loop-g-test.true c.weight_of-own.ensures c.mass_of-m.ensures c.inv-w.ensures
@@ -57,9 +30,6 @@ weight_of-own-requires-2 c = (c.requires.groups_long, c.requires.measures_long)
 
 pub mass_of-m-requires-2 : goal.mass_of-m-requires-2
 mass_of-m-requires-2 c = c.requires.few
-
-pub weigh-requires : goal.weigh-requires
-weigh-requires c = omega (arith, c.loop-g.invariant.points_long, c.requires.points, c.requires.here, c.requires.two)
 
 pub shape_of-points : goal.shape_of-points
 shape_of-points c = c.weigh.auto.points ∙ c.loop-g.invariant.points_long

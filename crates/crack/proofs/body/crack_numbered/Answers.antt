@@ -14,19 +14,19 @@ use Rattle.mesh.specs.Log.{World, world_at}
 use Rattle.mesh.specs.declared.Counts.{Counts}
 use Rattle.mesh.specs.declared.Rooms.{Rooms}
 use Rattle.work.specs.Working.{Within}
-use Rattle.work.specs.declared.Ran.{Ran}
-use Rattle.work.specs.declared.Ran.TheVariants.{Done}
+use Rattle.work.specs.Ran.{Ran}
 use Rattle.tornedge.specs.Cracks.{CrackTold}
 use Rattle.crack.specs.Bodies.{ends_listed, CracksTold}
 use Rattle.crack.proofs.BodyLaws.{cracks_none}
 use Rattle.crack.proofs.body.crack_numbered.Goals as goal
+use Rattle.std.specs.Prelude.{Ok}
 
 -- `crack::body::crack_numbered` meets its contract: a number that is not below e is skipped, any other is cracked. Assumes nothing.
 -- a number that is skipped
-number_skipped : (K : Kind) (min t : ℕ) (loads : List Float) (L : Rooms) (e : ℕ) (from to : List ℕ) (n : ℕ) {at : Counts → World} (k : Counts) → e ≤ n → Within k L → CracksTold K min t (ends_listed e from to (n ∷ [])) loads L (at k) at (Done k)
+number_skipped : (K : Kind) (min t : ℕ) (loads : List Float) (L : Rooms) (e : ℕ) (from to : List ℕ) (n : ℕ) {at : Counts → World} (k : Counts) → e ≤ n → Within k L → CracksTold K min t (ends_listed e from to (n ∷ [])) loads L (at k) at (Ok k)
 unfolding ends_listed sift
 number_skipped K min t loads L e from to n {at} k h b =
-    subst (λ (s : Bool). CracksTold K min t (map (λ i. (get_or from i 0, get_or to i 0)) (pick s (n ∷ []) [])) loads L (at k) at (Done k)) (sym (le-ltb n e h)) (cracks_none K min t loads L k b)
+    subst (λ (s : Bool). CracksTold K min t (map (λ i. (get_or from i 0, get_or to i 0)) (pick s (n ∷ []) [])) loads L (at k) at (Ok k)) (sym (le-ltb n e h)) (cracks_none K min t loads L k b)
 
 -- one that is cracked
 number_cracked : {K : Kind} {min t : ℕ} {loads : List Float} {L : Rooms} {W : World} {at : Counts → World} {r : Ran} (e : ℕ) (from to : List ℕ) (n : ℕ) → n < e → CrackTold K min (get_or from n 0) (get_or to n 0) t loads L W at r
@@ -38,24 +38,6 @@ number_cracked {K} {min} {t} {loads} {L} {W} {at} {r} e from to n h F =
 pub returns-then-number-e : goal.returns-then-number-e
 returns-then-number-e c = let A = c.args in
     (number_skipped (kind_is A.kind) A.minimum A.k.triangles A.loads.now A.room A.e A.from.now A.to.now A.number {at = λ q. world_at q A.points.now A.roots.now A.corners.now A.volumes.now A.ends.now A.lengths.now A.outline.now A.log.now} A.k (omega (arith, c.if-number-e.true)) c.requires.0.counts, c.requires.2)
-
-pub offset_bounds-from-number : goal.offset_bounds-from-number
-offset_bounds-from-number c = omega (arith, c.if-number-e.false, c.requires.1.first)
-
-pub bounds-from-number : goal.bounds-from-number
-bounds-from-number c = omega (arith, c.if-number-e.false, c.requires.1.first)
-
-pub overflow_cast-from : goal.overflow_cast-from
-overflow_cast-from c = omega (arith, c.shared_slice_known-5-1.given c.args.number)
-
-pub offset_bounds-to-number : goal.offset_bounds-to-number
-offset_bounds-to-number c = omega (arith, c.if-number-e.false, c.requires.1.second)
-
-pub bounds-to-number : goal.bounds-to-number
-bounds-to-number c = omega (arith, c.if-number-e.false, c.requires.1.second)
-
-pub overflow_cast-to : goal.overflow_cast-to
-overflow_cast-to c = omega (arith, c.shared_slice_known-6-1.given c.args.number)
 
 pub crack_edge-requires : goal.crack_edge-requires
 crack_edge-requires c = let P = c.requires in (P.0, P.1.logged, P.1.loads, P.1.first_few c.args.number (omega (arith, c.if-number-e.false)), P.1.second_few c.args.number (omega (arith, c.if-number-e.false)), P.2)

@@ -7,9 +7,6 @@ use Rattle.insert.proofs.Walks.{Walk, walk_head, walk_start, walk_within, walk_r
 use Rattle.crossing.proofs.BendLaws.{linked_below, SideMarking, marking_start, marking_step, marking_skip, marking_done}
 use Rattle.crossing.proofs.bends.mark_side.Goals as goal
 
-pub bounds-side-v : goal.bounds-side-v
-bounds-side-v c = omega (arith, c.requires.here, c.requires.long)
-
 pub first_at-at-requires : goal.first_at-at-requires
 first_at-at-requires c = walk_head c.requires.linked c.requires.here
 

@@ -45,9 +45,6 @@ shape_of-table-then-insertable c = c.insert.auto.table
 pub returns-then-insertable : goal.returns-then-insertable
 returns-then-insertable c = (cross_inserts _ _ _ _ _ _ _ _ _ _ _ _ _ c.plan_at-plan.result c.insertable.result c.plan_at-plan.ensures c.insertable.ensures _ _ _ _ _ _ _ _ c.if-insertable.true c.mark_bends.ensures c.insert.ensures.0, c.insert.ensures.1)
 
-pub offset_bounds-snapped-near : goal.offset_bounds-snapped-near
-offset_bounds-snapped-near c = omega (arith, near_few _ _ _ _ _ _ _ _ _ _ c.requires.0 c.plan_at-plan.result c.plan_at-plan.ensures.a_in c.plan_at-plan.ensures.b_in c.args.t _ c.near_end-near.ensures)
-
 pub bounds-snapped-near : goal.bounds-snapped-near
 bounds-snapped-near c = near_room _ _ _ _ _ _ _ _ _ _ c.requires.0 c.plan_at-plan.result c.plan_at-plan.ensures.a_in c.plan_at-plan.ensures.b_in c.args.t _ c.near_end-near.ensures
 

@@ -19,14 +19,6 @@ note_hit-m-requires c = let P = c.requires in
     let L = c.loop-i.invariant in
     (omega (arith, P.numbers_long, c.loop-i.invariant.numbers_long, c.loop-i.invariant.few, c.loop-i-test.true), omega (arith, P.ts_long, c.loop-i.invariant.ts_long, c.loop-i.invariant.few, c.loop-i-test.true), omega (arith, P.few, c.loop-i-test.true))
 
--- src/crossings.rt:54:9
-pub overflow_add-i : goal.overflow_add-i
-overflow_add-i c = omega (arith, c.loop-i-test.true)
-
--- src/crossings.rt:51:5
-pub loop-i-smaller : goal.loop-i-smaller
-loop-i-smaller c = omega (arith, c.loop-i-test.true)
-
 -- src/crossings.rt:51:5
 pub loop-i-preserved : goal.loop-i-preserved
 loop-i-preserved c = finding_step _ _ _ _ _ _ _ _ _ _ _ c.loop-i.invariant _ _ _ _ c.loop-i-test.true c.hit_of-hit.ensures c.note_hit-m.ensures c.note_hit-m.auto.numbers c.note_hit-m.auto.ts

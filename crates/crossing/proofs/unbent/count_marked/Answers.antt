@@ -9,21 +9,6 @@ use Rattle.crossing.proofs.unbent.count_marked.Goals.{else-marks-i-eq1, then-mar
 pub loop-i-init : goal.loop-i-init
 loop-i-init c = count_start _ _
 
-pub offset_bounds-marks-i : goal.offset_bounds-marks-i
-offset_bounds-marks-i c = omega (arith, c.loop-i-test.true, c.requires)
-
-pub bounds-marks-i : goal.bounds-marks-i
-bounds-marks-i c = omega (arith, c.loop-i-test.true, c.requires)
-
-pub overflow_add-count : goal.overflow_add-count
-overflow_add-count c = omega (arith, count_few c.loop-i.invariant, c.loop-i-test.true)
-
-pub overflow_add-i : goal.overflow_add-i
-overflow_add-i c = omega (arith, c.loop-i-test.true)
-
-pub loop-i-smaller : goal.loop-i-smaller
-loop-i-smaller c = omega (arith, c.loop-i-test.true)
-
 pub loop-i-preserved : goal.loop-i-preserved
 loop-i-preserved c = elim c.if-marks-i-eq1.branch [
   | then-marks-i-eq1 w ↦ count_took c.loop-i.invariant c.loop-i-test.true w.if-marks-i-eq1.true w.count-is
@@ -32,3 +17,6 @@ loop-i-preserved c = elim c.if-marks-i-eq1.branch [
 
 pub returns : goal.returns
 returns c = count_done c.loop-i.invariant c.loop-i-test.false
+
+pub overflow_add-count : goal.overflow_add-count
+overflow_add-count c = omega (arith, count_few c.loop-i.invariant, c.loop-i-test.true)

@@ -6,7 +6,7 @@ use Rattle.cut.proofs.facets.part_fan.Goals as goal
 
 pub returns-in-Free : goal.returns-in-Free
 returns-in-Free c = let A = c.args in
-    free_sides A.way (kind_is A.kind) A.v A.n A.verts.now A.points.now _ _ c.in-Free.is c.requires.sides_long c.clear_usize.ensures
+    free_sides A.way (kind_is A.kind) A.v A.n A.verts.now A.points.now _ _ c.in-Free.is c.requires.sides_long c.clear.ensures
 
 pub returns-in-Blade : goal.returns-in-Blade
 returns-in-Blade c = let A = c.args in

@@ -11,9 +11,6 @@ pub returns-then-same_reading : goal.returns-then-same_reading
 unfolding place_differs
 returns-then-same_reading c = lists_none _ _ _ _ (sym c.same_reading.ensures ∙ c.if-same_reading.true)
 
-pub overflow_add-result : goal.overflow_add-result
-overflow_add-result c = omega (arith, c.requires.few)
-
 pub returns : goal.returns
 unfolding place_differs
 returns c = lists_line _ _ _ _ _ _ (sym c.same_reading.ensures ∙ c.if-same_reading.false) (appends_as (line_of_lem c.put_word-word.ensures c.put_plain-number.ensures c.put_reading-first.ensures c.put_text-stroke.ensures c.put_reading-second.ensures c.put_byte-end.ensures) (place_line _ _ _ _)) refl

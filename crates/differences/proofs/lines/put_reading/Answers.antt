@@ -4,10 +4,10 @@ use borrow.Author.Rules.{rules}
 use Rattle.differences.proofs.lines.put_reading.Goals as goal
 
 pub put_row-requires : goal.put_row-requires
-put_row-requires c = coords_read _ _ _ _ _ c.in-Row.is c.requires
+put_row-requires c = coords_read _ _ _ _ _ c.in-Some.is c.requires
 
-pub returns-in-Missing : goal.returns-in-Missing
-returns-in-Missing c = as_missing _ _ c.in-Missing.is c.put_text.ensures
+pub returns-in-None : goal.returns-in-None
+returns-in-None c = as_missing _ _ c.in-None.is c.put_text.ensures
 
-pub returns-in-Row : goal.returns-in-Row
-returns-in-Row c = as_read _ _ _ _ _ c.in-Row.is c.put_row.ensures
+pub returns-in-Some : goal.returns-in-Some
+returns-in-Some c = as_read _ _ _ _ _ c.in-Some.is c.put_row.ensures

@@ -10,20 +10,11 @@ use Rattle.differing.proofs.whole.blade_at.Goals as goal
 pub field-requires : goal.field-requires
 field-requires c = let p = c.requires in record { room = omega (arith, p.room); narrow = omega arith; small = omega (arith, p.small) }
 
-pub overflow_add-at : goal.overflow_add-at
-overflow_add-at c = omega (arith, c.requires.small)
-
 pub field-requires-2 : goal.field-requires-2
 field-requires-2 c = let p = c.requires in record { room = omega (arith, p.room); narrow = omega arith; small = omega (arith, p.small) }
 
-pub overflow_add-at-2 : goal.overflow_add-at-2
-overflow_add-at-2 c = omega (arith, c.requires.small)
-
 pub field-requires-3 : goal.field-requires-3
 field-requires-3 c = let p = c.requires in record { room = omega (arith, p.room); narrow = omega arith; small = omega (arith, p.small) }
-
-pub overflow_add-at-3 : goal.overflow_add-at-3
-overflow_add-at-3 c = omega (arith, c.requires.small)
 
 pub field-requires-4 : goal.field-requires-4
 field-requires-4 c = let p = c.requires in record { room = omega (arith, p.room); narrow = omega arith; small = omega (arith, p.small) }

@@ -5,10 +5,6 @@ use Rattle.differing.specs.Differed.{read_sheet}
 use mathlib.Core.Path.{◌∙◌}
 use Rattle.differing.proofs.whole.put_all.Goals as goal
 
--- `differing::whole::put_all` meets its contract: counts, lists, outlines and blades are all differences. Assumes nothing.
-pub put_counts-counts-requires : goal.put_counts-counts-requires
-put_counts-counts-requires c = tt
-
 pub put_lists-lists-requires : goal.put_lists-lists-requires
 put_lists-lists-requires c = let p = c.requires in let a = c.args in record { first = p.first; second = p.second; few = counts_few a.c a.d c.put_counts-counts.ensures }
 

@@ -6,10 +6,6 @@ use mathlib.Core.Path.{◌∙◌}
 use native.Mathlib.Omega.{arith}
 use Rattle.differing.proofs.whole.put_counts.Goals as goal
 
--- `differing::whole::put_counts` meets its contract: one count behind the other. Assumes nothing.
-pub put_count-one-requires : goal.put_count-one-requires
-put_count-one-requires c = omega arith
-
 pub put_count-two-requires : goal.put_count-two-requires
 put_count-two-requires c = let a = c.args in omega (arith, count_counted Particles a.c.particles a.d.particles 0 c.put_count-one.ensures (omega arith))
 

@@ -7,10 +7,6 @@ use Rattle.edition.proofs.Starts.{reach, start_most}
 use Rattle.edition.proofs.Found.{listed_same, own_straps, own_triangles}
 use Rattle.edition.proofs.outlines.own_sides.Goals as goal
 
--- `edition::outlines::own_sides` meets its contract. Assumes nothing.
-pub overflow_mul-at : goal.overflow_mul-at
-overflow_mul-at c = omega (arith, limits c.args.c c.requires.typed.few)
-
 pub overflow_add-at : goal.overflow_add-at
 overflow_add-at c = let p = c.requires in omega (arith, limits c.args.c p.typed.few, p.is, start_most (bits_of c.args.s.now))
 
@@ -49,3 +45,7 @@ returns c =
     let a = c.args in
     let p = c.requires in
     listed_same _ _ (own_triangles a.s.now a.c p.typed (a.start + a.c.particles * 23) (omega (arith, p.is)) c.if-c-eq0.false) c.triangle_sides.ensures
+
+-- `edition::outlines::own_sides` meets its contract. Assumes nothing.
+pub overflow_mul-at : goal.overflow_mul-at
+overflow_mul-at c = omega (arith, limits c.args.c c.requires.typed.few)

@@ -12,24 +12,6 @@ use Rattle.edition.proofs.outlines.settle_typed.Goals as goal
 pub own_sides-m-requires : goal.own_sides-m-requires
 own_sides-m-requires c = let p = c.requires in record { typed = p.typed; is = start_first (bits_of c.args.s.now) p.first }
 
-pub overflow_mul-at : goal.overflow_mul-at
-overflow_mul-at c = omega (arith, limits c.args.c c.requires.typed.few)
-
-pub overflow_add-at : goal.overflow_add-at
-overflow_add-at c = omega (arith, limits c.args.c c.requires.typed.few)
-
-pub overflow_mul-at-2 : goal.overflow_mul-at-2
-overflow_mul-at-2 c = omega (arith, limits c.args.c c.requires.typed.few)
-
-pub overflow_add-at-2 : goal.overflow_add-at-2
-overflow_add-at-2 c = omega (arith, limits c.args.c c.requires.typed.few)
-
-pub overflow_mul-at-3 : goal.overflow_mul-at-3
-overflow_mul-at-3 c = omega (arith, limits c.args.c c.requires.typed.few)
-
-pub overflow_add-at-3 : goal.overflow_add-at-3
-overflow_add-at-3 c = omega (arith, limits c.args.c c.requires.typed.few)
-
 pub read_sides-requires : goal.read_sides-requires
 read_sides-requires c =
     let a = c.args in
@@ -64,3 +46,21 @@ returns c =
     let j = c.own_sides-m.auto.block in
     found_first a.s.now a.c p.typed (46 + a.c.particles * 23 + a.c.triangles * 30 + a.c.edges * 21) _ _ _ c.settle.result p.first refl
     (typed_sides a.c.boundary _ (bits_of a.s.now) (46 + a.c.particles * 23 + a.c.triangles * 30 + a.c.edges * 21) c.read_sides.ensures) (c.own_sides-m.ensures.sides (omega (arith, p.own_places))) c.settle.ensures
+
+pub overflow_mul-at : goal.overflow_mul-at
+overflow_mul-at c = omega (arith, limits c.args.c c.requires.typed.few)
+
+pub overflow_add-at : goal.overflow_add-at
+overflow_add-at c = omega (arith, limits c.args.c c.requires.typed.few)
+
+pub overflow_mul-at-2 : goal.overflow_mul-at-2
+overflow_mul-at-2 c = omega (arith, limits c.args.c c.requires.typed.few)
+
+pub overflow_add-at-2 : goal.overflow_add-at-2
+overflow_add-at-2 c = omega (arith, limits c.args.c c.requires.typed.few)
+
+pub overflow_mul-at-3 : goal.overflow_mul-at-3
+overflow_mul-at-3 c = omega (arith, limits c.args.c c.requires.typed.few)
+
+pub overflow_add-at-3 : goal.overflow_add-at-3
+overflow_add-at-3 c = omega (arith, limits c.args.c c.requires.typed.few)

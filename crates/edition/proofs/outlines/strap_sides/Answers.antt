@@ -12,32 +12,17 @@ use Rattle.edition.proofs.outlines.strap_sides.Goals as goal
 pub read_column-requires : goal.read_column-requires
 read_column-requires c = let p = c.requires in record { room = omega (arith, p.rows.room); small = omega (arith, p.rows.small); wide = omega arith; narrow = omega arith; places = p.first }
 
-pub overflow_add-at : goal.overflow_add-at
-overflow_add-at c = omega (arith, c.requires.rows.small)
-
 pub read_column-requires-2 : goal.read_column-requires-2
 read_column-requires-2 c = let p = c.requires in record { room = omega (arith, p.rows.room); small = omega (arith, p.rows.small); wide = omega arith; narrow = omega arith; places = p.second }
-
-pub overflow_add-at-2 : goal.overflow_add-at-2
-overflow_add-at-2 c = omega (arith, c.requires.rows.small)
 
 pub read_column-requires-3 : goal.read_column-requires-3
 read_column-requires-3 c = let p = c.requires in record { room = omega (arith, p.rows.room); small = omega (arith, p.rows.small); wide = omega arith; narrow = omega arith; places = p.third }
 
-pub slice_bounds-outline_straps-end : goal.slice_bounds-outline_straps-end
-slice_bounds-outline_straps-end c = omega (arith, c.requires.first, c.read_column.auto.out)
-
 pub slice_bounds-outline_straps-end-2 : goal.slice_bounds-outline_straps-end-2
 slice_bounds-outline_straps-end-2 c = sym (length-take-le _ _ (omega (arith, c.requires.first, c.read_column.auto.out)))
 
-pub slice_bounds-outline_straps-end-3 : goal.slice_bounds-outline_straps-end-3
-slice_bounds-outline_straps-end-3 c = omega (arith, c.requires.second, c.read_column-2.auto.out)
-
 pub slice_bounds-outline_straps-end-4 : goal.slice_bounds-outline_straps-end-4
 slice_bounds-outline_straps-end-4 c = sym (length-take-le _ _ (omega (arith, c.requires.second, c.read_column-2.auto.out)))
-
-pub slice_bounds-outline_straps-end-5 : goal.slice_bounds-outline_straps-end-5
-slice_bounds-outline_straps-end-5 c = omega (arith, c.requires.third, c.read_column-3.auto.out)
 
 pub slice_bounds-outline_straps-end-6 : goal.slice_bounds-outline_straps-end-6
 slice_bounds-outline_straps-end-6 c = sym (length-take-le _ _ (omega (arith, c.requires.third, c.read_column-3.auto.out)))

@@ -7,18 +7,6 @@ use Rattle.edition.proofs.read.read_mesh.Goals as goal
 pub start_bit-at-requires : goal.start_bit-at-requires
 start_bit-at-requires c = c.requires.typed.six
 
-pub overflow_mul-at_t : goal.overflow_mul-at_t
-overflow_mul-at_t c = omega (arith, mesh_few c.requires)
-
-pub overflow_add-at_t : goal.overflow_add-at_t
-overflow_add-at_t c = omega (arith, mesh_few c.requires, c.start_bit-at.ensures)
-
-pub overflow_mul-at_e : goal.overflow_mul-at_e
-overflow_mul-at_e c = omega (arith, mesh_few c.requires)
-
-pub overflow_add-at_e : goal.overflow_add-at_e
-overflow_add-at_e c = omega (arith, mesh_few c.requires, c.start_bit-at.ensures)
-
 pub read_particles-requires : goal.read_particles-requires
 read_particles-requires c =
     let q = c.requires in

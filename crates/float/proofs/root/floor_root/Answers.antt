@@ -6,31 +6,16 @@ use native.Mathlib.Omega.{arith}
 use Rattle.float.proofs.Squares.{root_lt, sq_fits, covers}
 use Rattle.float.proofs.root.floor_root.Goals as goal
 
-pub loop-b-init : goal.loop-b-init
-loop-b-init c = omega arith
-
-pub overflow_add-b : goal.overflow_add-b
-overflow_add-b c = omega arith
-
-pub overflow_add-t : goal.overflow_add-t
-overflow_add-t c = omega (arith, root_lt c.args.n c.loop-b.r c.requires c.loop-b.invariant.0)
-
 pub overflow_mul-t : goal.overflow_mul-t
 overflow_mul-t c =
     let r = c.loop-b.r in
     let b = (c.loop-b.b + 1) / 2 in
     record { fits = sq_fits (r + b) (omega (arith, root_lt c.args.n r c.requires c.loop-b.invariant.0)) }
 
-pub loop-b-smaller-then-t-n : goal.loop-b-smaller-then-t-n
-loop-b-smaller-then-t-n c = omega arith
-
 pub loop-b-preserved-then-t-n : goal.loop-b-preserved-then-t-n
 loop-b-preserved-then-t-n c =
     let b = (c.loop-b.b + 1) / 2 in
     (c.if-t-n.true, covers c.args.n c.loop-b.r c.loop-b.b b c.loop-b.invariant.1 (omega arith), omega arith, omega arith)
-
-pub loop-b-smaller : goal.loop-b-smaller
-loop-b-smaller c = omega arith
 
 pub loop-b-preserved : goal.loop-b-preserved
 loop-b-preserved c =

@@ -8,36 +8,12 @@ use Rattle.judge.proofs.Fine.{or_fine}
 use Rattle.image_checks.proofs.Lists.{two_path}
 use Rattle.image_checks.proofs.rows.pairs_fit.Goals as goal
 
-pub overflow_add-second : goal.overflow_add-second
-overflow_add-second c = omega arith
-
-pub overflow_sub-room : goal.overflow_sub-room
-overflow_sub-room c = omega arith
-
 pub loop-i-init : goal.loop-i-init
 unfolding fine
 loop-i-init c = (none_told _, omega arith)
 
-pub overflow_add-at : goal.overflow_add-at
-overflow_add-at c = omega arith
-
-pub word_at-a-requires : goal.word_at-a-requires
-word_at-a-requires c = omega arith
-
-pub overflow_add-second-in-loop-i : goal.overflow_add-second-in-loop-i
-overflow_add-second-in-loop-i c = omega arith
-
-pub word_at-b-requires : goal.word_at-b-requires
-word_at-b-requires c = omega arith
-
 pub two-fault-requires : goal.two-fault-requires
 two-fault-requires c = (omega arith, c.word_at-a.ensures.1)
-
-pub overflow_add-i : goal.overflow_add-i
-overflow_add-i c = omega arith
-
-pub loop-i-smaller : goal.loop-i-smaller
-loop-i-smaller c = omega arith
 
 pub loop-i-preserved : goal.loop-i-preserved
 loop-i-preserved c = (more_told _ _ _ _ _ (or_fine _ _) c.loop-i.invariant.0 (c.two-fault.ensures ∙ ap (named _) (two_path c.word_at-a.ensures.0 c.word_at-b.ensures.0)), omega arith)

@@ -8,27 +8,12 @@ use Rattle.judge.proofs.Wide.{none_told, more_told, end_told}
 use Rattle.judge.proofs.Fine.{or_fine}
 use Rattle.image_checks.proofs.runs.below.Goals as goal
 
-pub overflow_sub-room : goal.overflow_sub-room
-overflow_sub-room c = omega arith
-
 pub loop-i-init : goal.loop-i-init
 unfolding fine
 loop-i-init c = (none_told _, omega arith)
 
-pub overflow_add-at : goal.overflow_add-at
-overflow_add-at c = omega arith
-
-pub word_at-requires : goal.word_at-requires
-word_at-requires c = omega arith
-
 pub one-fault-requires : goal.one-fault-requires
 one-fault-requires c = (omega arith, c.word_at.ensures.1)
-
-pub overflow_add-i : goal.overflow_add-i
-overflow_add-i c = omega arith
-
-pub loop-i-smaller : goal.loop-i-smaller
-loop-i-smaller c = omega arith
 
 pub loop-i-preserved : goal.loop-i-preserved
 loop-i-preserved c = (more_told _ _ _ _ _ (or_fine _ _) c.loop-i.invariant.0 (c.one-fault.ensures ∙ ap (λ (w : ℕ). ltb w c.args.bound) c.word_at.ensures.0), omega arith)

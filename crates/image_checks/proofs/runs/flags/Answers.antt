@@ -7,18 +7,6 @@ use Rattle.image_checks.proofs.runs.flags.Goals as goal
 pub loop-i-init : goal.loop-i-init
 loop-i-init c = (none_told _, omega arith)
 
-pub overflow_add-at : goal.overflow_add-at
-overflow_add-at c = omega arith
-
-pub word_at-bits-requires : goal.word_at-bits-requires
-word_at-bits-requires c = omega arith
-
-pub overflow_add-i : goal.overflow_add-i
-overflow_add-i c = omega arith
-
-pub loop-i-smaller : goal.loop-i-smaller
-loop-i-smaller c = omega arith
-
 pub loop-i-preserved : goal.loop-i-preserved
 loop-i-preserved c = (flag_more c.args.bytes.now c.args.at c.loop-i.i c.loop-i.bits _ c.word_at-bits.ensures.0 c.loop-i.invariant.0, omega arith)
 

@@ -9,21 +9,6 @@ use Rattle.image_checks.proofs.runs.lengths.Goals as goal
 pub loop-i-init : goal.loop-i-init
 loop-i-init c = (none_told _, omega arith)
 
-pub overflow_add-at : goal.overflow_add-at
-overflow_add-at c = omega arith
-
-pub word_at-requires : goal.word_at-requires
-word_at-requires c = omega arith
-
-pub number_of-x-requires : goal.number_of-x-requires
-number_of-x-requires c = omega arith
-
-pub overflow_add-i : goal.overflow_add-i
-overflow_add-i c = omega arith
-
-pub loop-i-smaller : goal.loop-i-smaller
-loop-i-smaller c = omega arith
-
 pub loop-i-preserved : goal.loop-i-preserved
 loop-i-preserved c = (more_told _ _ _ _ _ c.both-ok.ensures c.loop-i.invariant.0 (c.length_ok.ensures ∙ ap length? (c.number_of-x.ensures ∙ ap number_of c.word_at.ensures.0)), omega arith)
 

@@ -6,16 +6,6 @@ use Rattle.insert.proofs.InsertLaws.{edges_inserted}
 use Rattle.insert.proofs.TableLaws.{strap_move_room, strap_append_room, strap_linked}
 use Rattle.insert.proofs.edges.insert_edges.Goals as goal
 
--- `insert::edges::insert_edges` meets its contract: the table follows the strap's second end before its row is stored, and the new row behind it (proofs/TableLaws.antt). Assumes nothing.
-pub half_of-first-requires : goal.half_of-first-requires
-half_of-first-requires c = tt
-
-pub overflow_add-p : goal.overflow_add-p
-overflow_add-p c = omega (arith, c.requires.2.heads)
-
-pub half_of-second-requires : goal.half_of-second-requires
-half_of-second-requires c = tt
-
 pub move_corner-requires : goal.move_corner-requires
 move_corner-requires c = strap_move_room _ _ _ _ c.args.lengths.now c.requires.0 c.requires.1 c.requires.2
 

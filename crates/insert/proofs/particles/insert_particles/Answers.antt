@@ -24,10 +24,6 @@ pub between-p-requires : goal.between-p-requires
 between-p-requires c = let R = c.requires in
     record { a_in = omega (arith, R.room.points, R.a_in); b_in = omega (arith, R.room.points, R.b_in) }
 
--- src/particles.rt:131:35
-pub overflow_add-n : goal.overflow_add-n
-overflow_add-n c = omega (arith, c.requires.few)
-
 -- src/particles.rt:131:48
 pub overflow_add-r-2 : goal.overflow_add-r-2
 overflow_add-r-2 c = let R = c.requires in
@@ -62,10 +58,6 @@ lighten-requires-2 c = let R = c.requires in
 pub append_particle-requires : goal.append_particle-requires
 append_particle-requires c = let R = c.requires in
     record { points = omega (arith, R.room.points, c.lighten.auto.points, c.lighten-2.auto.points); roots = omega (arith, R.room.roots) }
-
--- src/particles.rt:135:21
-pub overflow_add-n-2 : goal.overflow_add-n-2
-overflow_add-n-2 c = omega (arith, c.requires.few)
 
 -- src/particles.rt:135:5
 pub append_particle-requires-2 : goal.append_particle-requires-2

@@ -21,27 +21,6 @@ loop-at-init c = walk_start c.requires.linked c.first_at-at.ensures c.requires.h
 pub overflow_sub-i : goal.overflow_sub-i
 overflow_sub-i c = c.loop-at-test.true
 
-pub overflow_mul-rows : goal.overflow_mul-rows
-overflow_mul-rows c = omega (arith, walk_row c.requires.linked c.loop-at.invariant c.loop-at-test.true)
-
-pub overflow_add-rows : goal.overflow_add-rows
-overflow_add-rows c = omega (arith, walk_row c.requires.linked c.loop-at.invariant c.loop-at-test.true)
-
-pub offset_bounds-ends-rows : goal.offset_bounds-ends-rows
-offset_bounds-ends-rows c = omega (arith, walk_row c.requires.linked c.loop-at.invariant c.loop-at-test.true)
-
-pub bounds-ends-rows : goal.bounds-ends-rows
-bounds-ends-rows c = omega (arith, walk_row c.requires.linked c.loop-at.invariant c.loop-at-test.true)
-
-pub overflow_add-s : goal.overflow_add-s
-overflow_add-s c = omega (arith, walk_within c.requires.linked c.loop-at.invariant c.loop-at-test.true, c.requires.lengths)
-
-pub offset_bounds-lengths-l : goal.offset_bounds-lengths-l
-offset_bounds-lengths-l c = omega (arith, walk_within c.requires.linked c.loop-at.invariant c.loop-at-test.true, c.requires.lengths)
-
-pub bounds-lengths-l : goal.bounds-lengths-l
-bounds-lengths-l c = omega (arith, walk_within c.requires.linked c.loop-at.invariant c.loop-at-test.true, c.requires.lengths)
-
 pub next_at-at-requires : goal.next_at-at-requires
 next_at-at-requires c = walk_link c.requires.linked c.loop-at.invariant c.loop-at-test.true
 
@@ -59,3 +38,15 @@ loop-at-preserved c = let h = walk_holds c.requires.linked c.loop-at.invariant c
 
 pub returns : goal.returns
 returns c = walk_done c.requires.linked c.loop-at.invariant (λ j l n s. total_skip _ _ _ j _ n s) (omega arith)
+
+pub overflow_add-rows : goal.overflow_add-rows
+overflow_add-rows c = omega (arith, walk_row c.requires.linked c.loop-at.invariant c.loop-at-test.true)
+
+pub offset_bounds-ends-rows : goal.offset_bounds-ends-rows
+offset_bounds-ends-rows c = omega (arith, walk_row c.requires.linked c.loop-at.invariant c.loop-at-test.true)
+
+pub bounds-ends-rows : goal.bounds-ends-rows
+bounds-ends-rows c = omega (arith, walk_row c.requires.linked c.loop-at.invariant c.loop-at-test.true)
+
+pub bounds-lengths-l : goal.bounds-lengths-l
+bounds-lengths-l c = omega (arith, walk_within c.requires.linked c.loop-at.invariant c.loop-at-test.true, c.requires.lengths)

@@ -10,29 +10,21 @@ pub loop-i-init : goal.loop-i-init
 loop-i-init c = side_start _ _ _ _ _ _ _ c.requires.rows
 
 -- src/sides.rt:81:13
-pub insert_side-grown-requires : goal.insert_side-grown-requires
-insert_side-grown-requires c = let L = c.loop-i.invariant in
+pub insert_side-requires : goal.insert_side-requires
+insert_side-requires c = let L = c.loop-i.invariant in
     (record { rows = c.loop-i.invariant.most; columns = omega (arith, c.loop-i.invariant.long, c.requires.columns) }, omega (arith, c.loop-i.invariant.least, c.loop-i-test.true))
 
 -- src/sides.rt:83:13
-pub shape_of-outline-in_default : goal.shape_of-outline-in_default
-shape_of-outline-in_default c = c.insert_side-grown.auto.outline ∙ c.loop-i.invariant.long
+pub shape_of-outline-in_err-rows : goal.shape_of-outline-in_err-rows
+shape_of-outline-in_err-rows c = c.insert_side.auto.outline ∙ c.loop-i.invariant.long
 
 -- src/sides.rt:83:13
-pub returns-in_default : goal.returns-in_default
-returns-in_default c = side_lacks _ _ _ _ _ _ _ _ _ _ c.loop-i.invariant c.loop-i-test.true c.insert_side-grown.result _ c.insert_side-grown.ensures c.in_default.is
-
--- src/sides.rt:86:9
-pub overflow_add-i : goal.overflow_add-i
-overflow_add-i c = omega (arith, c.loop-i-test.true)
-
--- src/sides.rt:80:5
-pub loop-i-smaller : goal.loop-i-smaller
-loop-i-smaller c = omega (arith, c.loop-i-test.true)
+pub returns-in_err-rows : goal.returns-in_err-rows
+returns-in_err-rows c = rw c.from_residual.ensures (side_lacks _ _ _ _ _ _ _ _ _ _ c.loop-i.invariant c.loop-i-test.true c.insert_side.result _ c.insert_side.ensures c.in_err-rows.was)
 
 -- src/sides.rt:80:5
 pub loop-i-preserved : goal.loop-i-preserved
-loop-i-preserved c = side_step _ _ _ _ _ _ _ _ _ _ c.loop-i.invariant c.loop-i-test.true c.insert_side-grown.result _ c.insert_side-grown.ensures _ c.in-Rows.is c.insert_side-grown.auto.outline
+loop-i-preserved c = side_step _ _ _ _ _ _ _ _ _ _ c.loop-i.invariant c.loop-i-test.true c.insert_side.result _ c.insert_side.ensures _ c.in_ok-rows.was c.insert_side.auto.outline
 
 -- src/sides.rt:66:1
 pub shape_of-outline : goal.shape_of-outline

@@ -4,21 +4,11 @@ use native.Mathlib.Omega.{arith}
 use borrow.Author.Rules.{rules}
 use Rattle.insert.proofs.step.insert.Goals as goal
 
--- `insert::step::insert` meets its contract: the rooms are tested in the order of their numbers, and each list is as proofs/StepLaws.antt says. Assumes nothing.
-pub overflow_add-n : goal.overflow_add-n
-overflow_add-n c = omega (arith, c.requires.0.before_is, c.requires.0.counts.particles, c.requires.0.few_particles, c.requires.0.counts.edges, c.requires.0.few_edges, c.requires.0.counts.log, c.requires.0.few_log)
-
 pub returns-then-room-n : goal.returns-then-room-n
 returns-then-room-n c = (told_5 _ _ _ _ _ _ _ _ _ c.requires.0 _ _ _ _ _ _ c.if-room-n.true, tt)
 
-pub overflow_add-e : goal.overflow_add-e
-overflow_add-e c = omega (arith, c.requires.0.before_is, c.requires.0.counts.particles, c.requires.0.few_particles, c.requires.0.counts.edges, c.requires.0.few_edges, c.requires.0.counts.log, c.requires.0.few_log)
-
 pub returns-then-room-e : goal.returns-then-room-e
 returns-then-room-e c = (told_6 _ _ _ _ _ _ _ _ _ c.requires.0 _ _ _ _ _ _ c.if-room-n.false c.if-room-e.true, tt)
-
-pub overflow_add-n-2 : goal.overflow_add-n-2
-overflow_add-n-2 c = omega (arith, c.requires.0.before_is, c.requires.0.counts.particles, c.requires.0.few_particles, c.requires.0.counts.edges, c.requires.0.few_edges, c.requires.0.counts.log, c.requires.0.few_log)
 
 pub insert_sides-grown-requires : goal.insert_sides-grown-requires
 insert_sides-grown-requires c = record { rows = c.requires.0.counts.boundary; columns = c.requires.0.outline }
@@ -29,14 +19,11 @@ shape_of-outline-in_default c = c.insert_sides-grown.auto.outline
 pub returns-in_default : goal.returns-in_default
 returns-in_default c = (told_7 _ _ _ _ _ _ _ _ _ c.requires.0 _ _ _ _ _ _ c.if-room-n.false c.if-room-e.false c.insert_sides-grown.result c.insert_sides-grown.ensures c.in_default.is, tt)
 
-pub overflow_add-g : goal.overflow_add-g
-overflow_add-g c = omega (arith, c.requires.0.before_is, c.requires.0.counts.particles, c.requires.0.few_particles, c.requires.0.counts.edges, c.requires.0.few_edges, c.requires.0.counts.log, c.requires.0.few_log)
-
 pub shape_of-outline-then-room-g : goal.shape_of-outline-then-room-g
 shape_of-outline-then-room-g c = c.insert_sides-grown.auto.outline
 
 pub returns-then-room-g : goal.returns-then-room-g
-returns-then-room-g c = (told_8 _ _ _ _ _ _ _ _ _ c.requires.0 _ _ _ _ _ _ c.if-room-n.false c.if-room-e.false c.insert_sides-grown.result c.insert_sides-grown.ensures _ c.in-Rows.is c.if-room-g.true, tt)
+returns-then-room-g c = (told_8 _ _ _ _ _ _ _ _ _ c.requires.0 _ _ _ _ _ _ c.if-room-n.false c.if-room-e.false c.insert_sides-grown.result c.insert_sides-grown.ensures _ c.in-Some.is c.if-room-g.true, tt)
 
 pub insert_particles-requires : goal.insert_particles-requires
 insert_particles-requires c = let S = c.requires.0 in
@@ -45,33 +32,6 @@ insert_particles-requires c = let S = c.requires.0 in
 pub insert_edges-requires : goal.insert_edges-requires
 insert_edges-requires c = let S = c.requires.0 in
     (record { here = c.requires.0.here; room = record { ends = omega (arith, c.if-room-e.false, c.requires.0.ends); lengths = omega (arith, c.if-room-e.false, c.requires.0.lengths) } }, c.requires.1, record { a_in = omega (arith, c.requires.0.before_is, c.requires.0.a_in); b_in = omega (arith, c.requires.0.before_is, c.requires.0.b_in); heads = omega (arith, c.if-room-n.false, c.requires.0.few_particles); few = omega (arith, c.if-room-e.false, c.requires.0.few_edges) })
-
-pub overflow_cast-a : goal.overflow_cast-a
-overflow_cast-a c = omega (arith, c.requires.0.a_in, c.requires.0.counts.particles, c.requires.0.few_particles)
-
-pub overflow_cast-b : goal.overflow_cast-b
-overflow_cast-b c = omega (arith, c.requires.0.b_in, c.requires.0.counts.particles, c.requires.0.few_particles)
-
-pub overflow_cast-n : goal.overflow_cast-n
-overflow_cast-n c = omega (arith, c.requires.0.before_is, c.requires.0.counts.particles, c.requires.0.few_particles)
-
-pub overflow_add-n-3 : goal.overflow_add-n-3
-overflow_add-n-3 c = omega (arith, c.requires.0.before_is, c.requires.0.counts.particles, c.requires.0.few_particles, c.requires.0.counts.edges, c.requires.0.few_edges, c.requires.0.counts.log, c.requires.0.few_log)
-
-pub overflow_cast-n-2 : goal.overflow_cast-n-2
-overflow_cast-n-2 c = omega (arith, c.requires.0.before_is, c.requires.0.counts.particles, c.requires.0.few_particles)
-
-pub note-requires : goal.note-requires
-note-requires c = omega (arith, c.if-room-g.false, c.requires.0.log)
-
-pub overflow_add-result : goal.overflow_add-result
-overflow_add-result c = omega (arith, c.requires.0.before_is, c.requires.0.counts.particles, c.requires.0.few_particles, c.requires.0.counts.edges, c.requires.0.few_edges, c.requires.0.counts.log, c.requires.0.few_log)
-
-pub overflow_add-result-2 : goal.overflow_add-result-2
-overflow_add-result-2 c = omega (arith, c.requires.0.before_is, c.requires.0.counts.particles, c.requires.0.few_particles, c.requires.0.counts.edges, c.requires.0.few_edges, c.requires.0.counts.log, c.requires.0.few_log)
-
-pub overflow_add-result-3 : goal.overflow_add-result-3
-overflow_add-result-3 c = omega (arith, c.requires.0.before_is, c.requires.0.counts.particles, c.requires.0.few_particles, c.requires.0.counts.edges, c.requires.0.few_edges, c.requires.0.counts.log, c.requires.0.few_log)
 
 pub shape_of-points : goal.shape_of-points
 shape_of-points c = c.insert_particles.auto.points
@@ -95,4 +55,4 @@ pub shape_of-table : goal.shape_of-table
 shape_of-table c = c.insert_edges.auto.table
 
 pub returns : goal.returns
-returns c = (told_done _ _ _ _ _ _ _ _ _ c.requires.0 _ _ _ _ _ _ c.if-room-n.false c.if-room-e.false c.insert_sides-grown.result c.insert_sides-grown.ensures _ c.in-Rows.is c.if-room-g.false _ c.bits_of.ensures c.insert_particles.ensures c.insert_edges.ensures.0 c.note.ensures, c.insert_edges.ensures.1)
+returns c = (told_done _ _ _ _ _ _ _ _ _ c.requires.0 _ _ _ _ _ _ c.if-room-n.false c.if-room-e.false c.insert_sides-grown.result c.insert_sides-grown.ensures _ c.in-Some.is c.if-room-g.false _ c.bits_of.ensures c.insert_particles.ensures c.insert_edges.ensures.0 c.note.ensures, c.insert_edges.ensures.1)

@@ -1,5 +1,6 @@
 -- `job_replies::lent::reply_accepted` meets its contract: the room that lacks, or the reply to the work. Assumes nothing.
-use mathlib.Core.Path.{refl}
+use mathlib.Core.Path.{refl, sym, ◌∙◌}
+use Rattle.mesh.proofs.Refused.{refused_some}
 use Rattle.mesh.specs.Given.{mesh_of}
 use Rattle.call_frame.proofs.Begun.{begun_lacking, begun_copied}
 use Rattle.image.specs.Image.{image_of}
@@ -12,19 +13,19 @@ pub image_counts-k-requires : goal.image_counts-k-requires
 image_counts-k-requires c = c.requires.0
 
 pub refuse-requires : goal.refuse-requires
-refuse-requires c = let A = c.args in lack_small A.job A.list.now A.bytes.now A.room c.requires.0 (mesh_of (image_of A.bytes.now)) _ (begun_lacking 0 _ (image_of A.bytes.now) (mesh_of (image_of A.bytes.now)) _ refl (lacking_as _ (image_of A.bytes.now) _ _ c.image_counts-k.ensures c.lacking-lack.ensures) c.if-lack-ne0.true)
+refuse-requires c = let A = c.args in lack_small A.job A.list.now A.bytes.now A.room c.requires.0 (mesh_of (image_of A.bytes.now)) _ (begun_lacking 0 _ (image_of A.bytes.now) (mesh_of (image_of A.bytes.now)) _ refl (lacking_as _ (image_of A.bytes.now) _ _ c.image_counts-k.ensures (c.number.ensures ∙ c.in-Err.ensures)) (λ h. refused_some c.in-Err.e (sym c.number.ensures ∙ h)))
 
-pub shape_of-out-then-lack-ne0 : goal.shape_of-out-then-lack-ne0
-shape_of-out-then-lack-ne0 c = c.refuse.auto.out
+pub shape_of-out-in-Err : goal.shape_of-out-in-Err
+shape_of-out-in-Err c = c.refuse.auto.out
 
-pub shape_of-log-then-lack-ne0 : goal.shape_of-log-then-lack-ne0
-shape_of-log-then-lack-ne0 c = c.refuse.auto.log
+pub shape_of-log-in-Err : goal.shape_of-log-in-Err
+shape_of-log-in-Err c = c.refuse.auto.log
 
-pub returns-then-lack-ne0 : goal.returns-then-lack-ne0
-returns-then-lack-ne0 c = let A = c.args in lack_replied A.job A.list.now A.bytes.now A.room c.requires.0 (mesh_of (image_of A.bytes.now)) _ _ _ _ _ _ c.requires.3 (begun_lacking 0 _ (image_of A.bytes.now) (mesh_of (image_of A.bytes.now)) _ refl (lacking_as _ (image_of A.bytes.now) _ _ c.image_counts-k.ensures c.lacking-lack.ensures) c.if-lack-ne0.true) c.if-lack-ne0.true c.refuse.ensures
+pub returns-in-Err : goal.returns-in-Err
+returns-in-Err c = let A = c.args in lack_replied A.job A.list.now A.bytes.now A.room c.requires.0 (mesh_of (image_of A.bytes.now)) _ _ _ _ _ _ c.requires.3 (begun_lacking 0 _ (image_of A.bytes.now) (mesh_of (image_of A.bytes.now)) _ refl (lacking_as _ (image_of A.bytes.now) _ _ c.image_counts-k.ensures (c.number.ensures ∙ c.in-Err.ensures)) (λ h. refused_some c.in-Err.e (sym c.number.ensures ∙ h))) (λ h. refused_some c.in-Err.e (sym c.number.ensures ∙ h)) c.refuse.ensures
 
 pub reply_work-requires : goal.reply_work-requires
-reply_work-requires c = let A = c.args in (c.requires.0, c.requires.1, c.requires.2, accepted_begun A.job A.list.now A.bytes.now A.room _ 0 c.requires.3 (begun_copied 0 _ (image_of A.bytes.now) _ _ refl (lacking_as _ (image_of A.bytes.now) _ _ c.image_counts-k.ensures c.lacking-lack.ensures) c.if-lack-ne0.false c.requires.4) refl)
+reply_work-requires c = let A = c.args in (c.requires.0, c.requires.1, c.requires.2, accepted_begun A.job A.list.now A.bytes.now A.room _ 0 c.requires.3 (begun_copied 0 _ (image_of A.bytes.now) _ _ refl (lacking_as _ (image_of A.bytes.now) _ _ c.image_counts-k.ensures c.in_default.ensures) refl c.requires.4) refl)
 
 pub shape_of-points : goal.shape_of-points
 shape_of-points c = c.reply_work.auto.points

@@ -31,9 +31,6 @@ shape_of-roots c = c.work-ran.auto.roots
 pub shape_of-corners : goal.shape_of-corners
 shape_of-corners c = c.work-ran.auto.corners
 
-pub shape_of-volumes : goal.shape_of-volumes
-shape_of-volumes c = refl
-
 pub shape_of-ends : goal.shape_of-ends
 shape_of-ends c = c.work-ran.auto.ends
 

@@ -9,48 +9,9 @@ use Rattle.judge.proofs.Checked.{corners_tested}
 use Rattle.judge.proofs.Fine.{or_fine}
 use Rattle.judge.proofs.checks.corners_fit.Goals as goal
 
-pub overflow_sub-room : goal.overflow_sub-room
-overflow_sub-room c = omega arith
-
 pub loop-i-init : goal.loop-i-init
 unfolding fine
 loop-i-init c = (λ volumes. none_told _, omega arith)
-
-pub offset_bounds-corners-i : goal.offset_bounds-corners-i
-offset_bounds-corners-i c = omega arith
-
-pub bounds-corners-i : goal.bounds-corners-i
-bounds-corners-i c = omega arith
-
-pub overflow_add-c : goal.overflow_add-c
-overflow_add-c c = omega arith
-
-pub offset_bounds-corners-c : goal.offset_bounds-corners-c
-offset_bounds-corners-c c = omega arith
-
-pub bounds-corners-c : goal.bounds-corners-c
-bounds-corners-c c = omega arith
-
-pub overflow_mul-c : goal.overflow_mul-c
-overflow_mul-c c = omega arith
-
-pub overflow_add-c-in-loop-i : goal.overflow_add-c-in-loop-i
-overflow_add-c-in-loop-i c = omega arith
-
-pub offset_bounds-corners-c-in-loop-i : goal.offset_bounds-corners-c-in-loop-i
-offset_bounds-corners-c-in-loop-i c = omega arith
-
-pub bounds-corners-c-in-loop-i : goal.bounds-corners-c-in-loop-i
-bounds-corners-c-in-loop-i c = omega arith
-
-pub three-fault-requires : goal.three-fault-requires
-three-fault-requires c = omega arith
-
-pub overflow_add-i : goal.overflow_add-i
-overflow_add-i c = omega arith
-
-pub loop-i-smaller : goal.loop-i-smaller
-loop-i-smaller c = omega arith
 
 pub loop-i-preserved : goal.loop-i-preserved
 loop-i-preserved c = (λ volumes. more_told _ _ _ _ _ (or_fine _ _) (c.loop-i.invariant.0 volumes) (c.three-fault.ensures ∙ corners_tested _ _ _ _ volumes _), omega arith)

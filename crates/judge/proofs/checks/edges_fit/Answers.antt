@@ -1,24 +1,11 @@
 -- `judge::checks::edges_fit` meets its contract: it asks the edges column by column. Assumes nothing.
-use Rattle.std.proofs.Common.{sym, ◌∙◌, arith}
+use Rattle.std.proofs.Common.{sym, ◌∙◌}
 use Rattle.columns.proofs.Rows.{all_tab}
 use Rattle.model.specs.Valid.{edge_ok}
 use Rattle.mesh.specs.At.{edge_row, edges_at}
 use Rattle.judge.proofs.Wide.{and_told, all_alike}
 use Rattle.judge.proofs.Checked.{edge_tested}
 use Rattle.judge.proofs.checks.edges_fit.Goals as goal
-
--- `judge::checks::edges_fit` meets its contract: it asks the edges column by column. Assumes nothing.
-pub overflow_mul-e : goal.overflow_mul-e
-overflow_mul-e c = omega arith
-
-pub overflow_mul-e-2 : goal.overflow_mul-e-2
-overflow_mul-e-2 c = omega arith
-
-pub overflow_mul-l : goal.overflow_mul-l
-overflow_mul-l c = omega arith
-
-pub overflow_mul-l-2 : goal.overflow_mul-l-2
-overflow_mul-l-2 c = omega arith
 
 pub returns : goal.returns
 unfolding edges_at

@@ -1,29 +1,11 @@
 -- `judge::checks::particles_fit` meets its contract: it asks the particles column by column. Assumes nothing.
-use Rattle.std.proofs.Common.{sym, ◌∙◌, arith}
+use Rattle.std.proofs.Common.{sym, ◌∙◌}
 use Rattle.columns.proofs.Rows.{all_tab}
 use Rattle.model.specs.Valid.{particle_ok}
 use Rattle.mesh.specs.At.{particle_row, particles_at}
 use Rattle.judge.proofs.Wide.{and_told, all_alike}
 use Rattle.judge.proofs.Checked.{particle_tested}
 use Rattle.judge.proofs.checks.particles_fit.Goals as goal
-
-pub overflow_mul-p : goal.overflow_mul-p
-overflow_mul-p c = omega arith
-
-pub overflow_mul-p-2 : goal.overflow_mul-p-2
-overflow_mul-p-2 c = omega arith
-
-pub overflow_mul-p-3 : goal.overflow_mul-p-3
-overflow_mul-p-3 c = omega arith
-
-pub overflow_mul-p-4 : goal.overflow_mul-p-4
-overflow_mul-p-4 c = omega arith
-
-pub overflow_mul-p-5 : goal.overflow_mul-p-5
-overflow_mul-p-5 c = omega arith
-
-pub overflow_mul-p-6 : goal.overflow_mul-p-6
-overflow_mul-p-6 c = omega arith
 
 pub returns : goal.returns
 unfolding particles_at

@@ -5,27 +5,9 @@ use Rattle.judge.proofs.Wide.{none_told, more_told, end_told}
 use Rattle.judge.proofs.Fine.{or_fine}
 use Rattle.judge.proofs.ranges.below.Goals as goal
 
-pub overflow_sub-room : goal.overflow_sub-room
-overflow_sub-room c = omega arith
-
 pub loop-i-init : goal.loop-i-init
 unfolding fine
 loop-i-init c = (none_told _, omega arith)
-
-pub offset_bounds-s-i : goal.offset_bounds-s-i
-offset_bounds-s-i c = omega arith
-
-pub bounds-s-i : goal.bounds-s-i
-bounds-s-i c = omega arith
-
-pub index-fault-requires : goal.index-fault-requires
-index-fault-requires c = omega arith
-
-pub overflow_add-i : goal.overflow_add-i
-overflow_add-i c = omega arith
-
-pub loop-i-smaller : goal.loop-i-smaller
-loop-i-smaller c = omega arith
 
 pub loop-i-preserved : goal.loop-i-preserved
 loop-i-preserved c = (more_told _ _ _ _ _ (or_fine _ _) c.loop-i.invariant.0 c.index-fault.ensures, omega arith)

@@ -6,21 +6,6 @@ use Rattle.judge.proofs.ranges.in_range.Goals as goal
 pub loop-i-init : goal.loop-i-init
 loop-i-init c = (none_told _, omega arith)
 
-pub overflow_add-at : goal.overflow_add-at
-overflow_add-at c = omega arith
-
-pub offset_bounds-s-at : goal.offset_bounds-s-at
-offset_bounds-s-at c = omega arith
-
-pub bounds-s-at : goal.bounds-s-at
-bounds-s-at c = omega arith
-
-pub overflow_add-i : goal.overflow_add-i
-overflow_add-i c = omega arith
-
-pub loop-i-smaller : goal.loop-i-smaller
-loop-i-smaller c = omega arith
-
 pub loop-i-preserved : goal.loop-i-preserved
 loop-i-preserved c = (more_told _ _ _ _ _ c.both-ok.ensures c.loop-i.invariant.0 c.in_range.ensures, omega arith)
 

@@ -12,23 +12,8 @@ use Rattle.marks.proofs.particles.any_split.Goals as goal
 pub loop-i-init : goal.loop-i-init
 loop-i-init c = (omega arith, split_none c.args.log.now)
 
-pub overflow_mul-at : goal.overflow_mul-at
-overflow_mul-at c = omega arith
-
-pub offset_bounds-log-at : goal.offset_bounds-log-at
-offset_bounds-log-at c = omega arith
-
-pub bounds-log-at : goal.bounds-log-at
-bounds-log-at c = omega arith
-
 pub returns-then-log-at-eq1 : goal.returns-then-log-at-eq1
 returns-then-log-at-eq1 c = split_here c.args.log.now c.args.l c.loop-i.i c.loop-i-test.true c.if-log-at-eq1.true
-
-pub overflow_add-i : goal.overflow_add-i
-overflow_add-i c = omega arith
-
-pub loop-i-smaller : goal.loop-i-smaller
-loop-i-smaller c = omega arith
 
 pub loop-i-preserved : goal.loop-i-preserved
 loop-i-preserved c = (omega arith, split_on c.args.log.now c.loop-i.i c.if-log-at-eq1.false c.loop-i.invariant.1)

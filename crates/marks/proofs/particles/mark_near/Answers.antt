@@ -11,56 +11,14 @@ use native.Mathlib.Omega.{arith}
 use Rattle.marks.proofs.particles.mark_near.Goals as goal
 use Rattle.marks.proofs.particles.mark_near.Goals.{else-log-at-eq1, then-log-at-eq1}
 
-pub clear_usize-requires : goal.clear_usize-requires
-clear_usize-requires c = omega arith
-
 pub loop-i-init : goal.loop-i-init
-loop-i-init c = (omega arith, refl, rows_none ends_in_of (entry_row c.args.log.now) _ _ c.clear_usize.ensures)
-
-pub overflow_mul-at : goal.overflow_mul-at
-overflow_mul-at c = omega arith
-
-pub offset_bounds-log-at : goal.offset_bounds-log-at
-offset_bounds-log-at c = omega arith
-
-pub bounds-log-at : goal.bounds-log-at
-bounds-log-at c = omega arith
-
-pub overflow_add-at : goal.overflow_add-at
-overflow_add-at c = omega arith
-
-pub offset_bounds-log-at-then-log-at-eq1 : goal.offset_bounds-log-at-then-log-at-eq1
-offset_bounds-log-at-then-log-at-eq1 c = omega arith
-
-pub bounds-log-at-then-log-at-eq1 : goal.bounds-log-at-then-log-at-eq1
-bounds-log-at-then-log-at-eq1 c = omega arith
+loop-i-init c = (omega arith, refl, rows_none ends_in_of (entry_row c.args.log.now) _ _ c.clear.ensures)
 
 pub overflow_cast-log : goal.overflow_cast-log
 overflow_cast-log c = omega (arith, c.shared_slice_known-then-log-at-eq1-1.given (6 * c.loop-i.i + 1))
 
-pub mark-requires : goal.mark-requires
-mark-requires c = omega arith
-
-pub overflow_add-at-then-log-at-eq1 : goal.overflow_add-at-then-log-at-eq1
-overflow_add-at-then-log-at-eq1 c = omega arith
-
-pub offset_bounds-log-at-then-log-at-eq1-2 : goal.offset_bounds-log-at-then-log-at-eq1-2
-offset_bounds-log-at-then-log-at-eq1-2 c = omega arith
-
-pub bounds-log-at-then-log-at-eq1-2 : goal.bounds-log-at-then-log-at-eq1-2
-bounds-log-at-then-log-at-eq1-2 c = omega arith
-
 pub overflow_cast-log-then-log-at-eq1 : goal.overflow_cast-log-then-log-at-eq1
 overflow_cast-log-then-log-at-eq1 c = omega (arith, c.shared_slice_known-then-log-at-eq1-2-1.given (6 * c.loop-i.i + 2))
-
-pub mark-requires-then-log-at-eq1 : goal.mark-requires-then-log-at-eq1
-mark-requires-then-log-at-eq1 c = omega arith
-
-pub overflow_add-i : goal.overflow_add-i
-overflow_add-i c = omega arith
-
-pub loop-i-smaller : goal.loop-i-smaller
-loop-i-smaller c = omega arith
 
 pub loop-i-preserved : goal.loop-i-preserved
 loop-i-preserved c = let L = c.loop-i in
@@ -73,7 +31,7 @@ loop-i-preserved c = let L = c.loop-i in
     ]
 
 pub shape_of-near : goal.shape_of-near
-shape_of-near c = c.loop-i.invariant.1 ∙ cleared_length _ _ c.clear_usize.ensures
+shape_of-near c = c.loop-i.invariant.1 ∙ cleared_length _ _ c.clear.ensures
 
 pub returns : goal.returns
 returns c = near_done c.args.l c.loop-i.i c.args.log.now _ (omega arith) c.loop-i.invariant.2

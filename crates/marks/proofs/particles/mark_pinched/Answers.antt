@@ -8,48 +8,12 @@ use mathlib.Core.Path.{◌≡◌, refl, ◌∙◌}
 use native.Mathlib.Omega.{arith}
 use Rattle.marks.proofs.particles.mark_pinched.Goals as goal
 
-pub clear_usize-requires : goal.clear_usize-requires
-clear_usize-requires c = omega arith
-
 pub loop-i-init : goal.loop-i-init
 loop-i-init c = let A = c.args in
-    (omega arith, refl, rows_none (near_row A.near.now) (corners_at A.corners.now) _ _ c.clear_usize.ensures)
-
-pub overflow_add-second : goal.overflow_add-second
-overflow_add-second c = omega (arith, c.requires.long)
-
-pub overflow_mul-third : goal.overflow_mul-third
-overflow_mul-third c = omega (arith, c.requires.long)
-
-pub overflow_add-third : goal.overflow_add-third
-overflow_add-third c = omega (arith, c.requires.long)
-
-pub offset_bounds-corners-i : goal.offset_bounds-corners-i
-offset_bounds-corners-i c = omega (arith, c.requires.long)
-
-pub bounds-corners-i : goal.bounds-corners-i
-bounds-corners-i c = omega (arith, c.requires.long)
-
-pub offset_bounds-corners-second : goal.offset_bounds-corners-second
-offset_bounds-corners-second c = omega (arith, c.requires.long)
-
-pub bounds-corners-second : goal.bounds-corners-second
-bounds-corners-second c = omega (arith, c.requires.long)
-
-pub offset_bounds-corners-third : goal.offset_bounds-corners-third
-offset_bounds-corners-third c = omega (arith, c.requires.long)
-
-pub bounds-corners-third : goal.bounds-corners-third
-bounds-corners-third c = omega (arith, c.requires.long)
+    (omega arith, refl, rows_none (near_row A.near.now) (corners_at A.corners.now) _ _ c.clear.ensures)
 
 pub mark_three-requires : goal.mark_three-requires
 mark_three-requires c = let b = row_below _ _ _ _ c.requires.corners_in c.loop-i-test.true in (b.first, b.second, b.third)
-
-pub overflow_add-i : goal.overflow_add-i
-overflow_add-i c = omega arith
-
-pub loop-i-smaller : goal.loop-i-smaller
-loop-i-smaller c = omega arith
 
 pub loop-i-preserved : goal.loop-i-preserved
 loop-i-preserved c = let A = c.args in
@@ -58,7 +22,7 @@ loop-i-preserved c = let A = c.args in
     (omega arith, k ∙ L.invariant.1, rows_more (near_row A.near.now) (corners_at A.corners.now) L.i _ _ k L.invariant.2 c.mark_three.ensures)
 
 pub shape_of-marks : goal.shape_of-marks
-shape_of-marks c = c.loop-i.invariant.1 ∙ cleared_length _ _ c.clear_usize.ensures
+shape_of-marks c = c.loop-i.invariant.1 ∙ cleared_length _ _ c.clear.ensures
 
 pub returns : goal.returns
 returns c = let A = c.args in

@@ -24,21 +24,6 @@ pub loop-i-init : goal.loop-i-init
 loop-i-init c = let A = c.args in
     (omega arith, omega arith, on_none (blade_by Signs A.b0 A.b1) A.points.now A.verts.now)
 
-pub overflow_add-end : goal.overflow_add-end
-overflow_add-end c = omega (arith, c.requires.long, c.loop-i.invariant.1)
-
-pub offset_bounds-verts-at : goal.offset_bounds-verts-at
-offset_bounds-verts-at c = omega (arith, c.requires.long, c.loop-i.invariant.1)
-
-pub slice_bounds-row_sign-count : goal.slice_bounds-row_sign-count
-slice_bounds-row_sign-count c = omega arith
-
-pub slice_bounds-row_sign-start : goal.slice_bounds-row_sign-start
-slice_bounds-row_sign-start c = omega arith
-
-pub slice_bounds-row_sign-end : goal.slice_bounds-row_sign-end
-slice_bounds-row_sign-end c = omega (arith, c.requires.long, c.loop-i.invariant.1)
-
 pub row_sign-s-requires : goal.row_sign-s-requires
 row_sign-s-requires c =
     let L = c.loop-i in
@@ -51,12 +36,6 @@ returns-then-not-on_line-2 c =
     sign_first (blade_by Signs A.b0 A.b1) A.points.now A.v A.n A.verts.now _ _ _ c.place.ensures c.offset.ensures c.sign_of-own.ensures
     (sym c.on_line.ensures ∙ not-false _ (ap not c.if-not-on_line.false)) L.i L.at (L.at + 3 - L.at) _ c.loop-i-test.true L.invariant.2 L.invariant.1 (omega arith)
     c.row_sign-s.ensures (sym c.on_line-in-loop-i.ensures ∙ not-true _ (ap not c.if-not-on_line-2.true))
-
-pub overflow_add-i : goal.overflow_add-i
-overflow_add-i c = omega arith
-
-pub loop-i-smaller : goal.loop-i-smaller
-loop-i-smaller c = omega arith
 
 pub loop-i-preserved : goal.loop-i-preserved
 loop-i-preserved c =

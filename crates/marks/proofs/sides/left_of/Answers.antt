@@ -6,21 +6,11 @@ use native.Mathlib.Omega.{arith}
 use borrow.Author.Rules.{rules}
 use Rattle.marks.proofs.sides.left_of.Goals as goal
 
--- `marks::sides::left_of` meets its contract. The middle of three corners, or of two. Assumes nothing.
-pub bounds-row-0 : goal.bounds-row-0
-bounds-row-0 c = omega (arith, row_long _ _ c.requires)
-
 pub place-x-requires : goal.place-x-requires
 place-x-requires c = c.requires.corners_in 0 (omega (arith, row_long _ _ c.requires))
 
-pub bounds-row-1 : goal.bounds-row-1
-bounds-row-1 c = omega (arith, row_long _ _ c.requires)
-
 pub place-y-requires : goal.place-y-requires
 place-y-requires c = c.requires.corners_in 1 (omega (arith, row_long _ _ c.requires))
-
-pub bounds-row-2 : goal.bounds-row-2
-bounds-row-2 c = omega (arith, c.if-row-eq3.true)
 
 pub place-z-requires : goal.place-z-requires
 place-z-requires c = c.requires.corners_in 2 (omega (arith, c.if-row-eq3.true))

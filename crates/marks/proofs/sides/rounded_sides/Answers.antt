@@ -21,18 +21,6 @@ pub loop-i-init : goal.loop-i-init
 loop-i-init c = let A = c.args in
     (omega arith, omega arith, refl, sides_none _ A.sides.now)
 
-pub overflow_add-end : goal.overflow_add-end
-overflow_add-end c = omega (arith, row_fits _ _ _ _ _ _ c.corners_per-k.ensures c.requires.long c.loop-i-test.true c.loop-i.invariant.1)
-
-pub offset_bounds-verts-at : goal.offset_bounds-verts-at
-offset_bounds-verts-at c = omega (arith, row_fits _ _ _ _ _ _ c.corners_per-k.ensures c.requires.long c.loop-i-test.true c.loop-i.invariant.1)
-
-pub slice_bounds-left_of-count : goal.slice_bounds-left_of-count
-slice_bounds-left_of-count c = omega arith
-
-pub slice_bounds-left_of-start : goal.slice_bounds-left_of-start
-slice_bounds-left_of-start c = omega arith
-
 pub slice_bounds-left_of-end : goal.slice_bounds-left_of-end
 slice_bounds-left_of-end c = row_fits _ _ _ _ _ _ c.corners_per-k.ensures c.requires.long c.loop-i-test.true c.loop-i.invariant.1
 
@@ -43,18 +31,6 @@ left_of-left-requires c = let A = c.args in
     let k = c.corners_per-k.result in
     let a = c.loop-i.at in
     row_in k A.n A.verts.now _ (per_size (kind_is A.kind) k e) (long_at A.n k _ _ e P.long) (below_at _ _ k _ A.verts.now e P.corners_in) c.loop-i.i a (a + k - a) c.loop-i-test.true c.loop-i.invariant.1 (omega arith)
-
-pub offset_bounds-sides-i : goal.offset_bounds-sides-i
-offset_bounds-sides-i c = omega (arith, c.requires.few)
-
-pub bounds-sides-i : goal.bounds-sides-i
-bounds-sides-i c = omega (arith, c.requires.sides_long, c.loop-i.invariant.2)
-
-pub overflow_add-i : goal.overflow_add-i
-overflow_add-i c = omega (arith, c.requires.few)
-
-pub loop-i-smaller : goal.loop-i-smaller
-loop-i-smaller c = omega arith
 
 pub loop-i-preserved : goal.loop-i-preserved
 loop-i-preserved c = let A = c.args in

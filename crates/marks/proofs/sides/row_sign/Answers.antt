@@ -6,21 +6,11 @@ use native.Mathlib.Omega.{arith}
 use borrow.Author.Rules.{rules}
 use Rattle.marks.proofs.sides.row_sign.Goals as goal
 
--- `marks::sides::row_sign` meets its contract. The sign of the sum of the corners' offsets. Assumes nothing.
-pub bounds-row-0 : goal.bounds-row-0
-bounds-row-0 c = omega (arith, c.requires.size)
-
 pub place-requires : goal.place-requires
 place-requires c = c.requires.corners_in 0 (omega arith)
 
-pub bounds-row-1 : goal.bounds-row-1
-bounds-row-1 c = omega (arith, c.requires.size)
-
 pub place-requires-2 : goal.place-requires-2
 place-requires-2 c = c.requires.corners_in 1 (omega arith)
-
-pub bounds-row-2 : goal.bounds-row-2
-bounds-row-2 c = omega (arith, c.requires.size)
 
 pub place-requires-3 : goal.place-requires-3
 place-requires-3 c = c.requires.corners_in 2 (omega arith)

@@ -19,37 +19,10 @@ kept_sign-kept-requires c = let P = c.requires in
 pub loop-i-init : goal.loop-i-init
 loop-i-init c = (omega arith, omega arith, refl, sides_none _ c.args.sides.now)
 
-pub overflow_add-end : goal.overflow_add-end
-overflow_add-end c = omega (arith, c.requires.long, c.loop-i.invariant.1)
-
-pub offset_bounds-verts-at : goal.offset_bounds-verts-at
-offset_bounds-verts-at c = omega (arith, c.requires.long, c.loop-i.invariant.1)
-
-pub slice_bounds-row_sign-count : goal.slice_bounds-row_sign-count
-slice_bounds-row_sign-count c = omega arith
-
-pub slice_bounds-row_sign-start : goal.slice_bounds-row_sign-start
-slice_bounds-row_sign-start c = omega arith
-
-pub slice_bounds-row_sign-end : goal.slice_bounds-row_sign-end
-slice_bounds-row_sign-end c = omega (arith, c.requires.long, c.loop-i.invariant.1)
-
 pub row_sign-s-requires : goal.row_sign-s-requires
 row_sign-s-requires c =
     let L = c.loop-i in
     triangle_in c.args.n c.args.verts.now _ c.requires.long c.requires.corners_in L.i L.at (L.at + 3 - L.at) c.loop-i-test.true L.invariant.1 (omega arith)
-
-pub offset_bounds-sides-i : goal.offset_bounds-sides-i
-offset_bounds-sides-i c = omega (arith, c.requires.few)
-
-pub bounds-sides-i : goal.bounds-sides-i
-bounds-sides-i c = omega (arith, c.requires.sides_long, c.loop-i.invariant.2)
-
-pub overflow_add-i : goal.overflow_add-i
-overflow_add-i c = omega (arith, c.requires.few)
-
-pub loop-i-smaller : goal.loop-i-smaller
-loop-i-smaller c = omega arith
 
 pub loop-i-preserved : goal.loop-i-preserved
 loop-i-preserved c =

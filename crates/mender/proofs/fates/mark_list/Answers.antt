@@ -16,32 +16,14 @@ loop-i-init c = let a = c.args in
 pub field-a-requires : goal.field-a-requires
 field-a-requires c = record { room = omega arith; narrow = omega arith; small = omega arith }
 
-pub overflow_add-pos : goal.overflow_add-pos
-overflow_add-pos c = omega arith
-
 pub field-b-requires : goal.field-b-requires
 field-b-requires c = record { room = omega arith; narrow = omega arith; small = omega arith }
-
-pub overflow_add-pos-in-loop-i : goal.overflow_add-pos-in-loop-i
-overflow_add-pos-in-loop-i c = omega arith
 
 pub field-c-requires : goal.field-c-requires
 field-c-requires c = record { room = omega arith; narrow = omega arith; small = omega arith }
 
-pub offset_bounds-mask-i : goal.offset_bounds-mask-i
-offset_bounds-mask-i c = omega arith
-
-pub bounds-mask-i : goal.bounds-mask-i
-bounds-mask-i c = omega arith
-
-pub overflow_add-i : goal.overflow_add-i
-overflow_add-i c = omega arith
-
 pub overflow_add-pos-in-loop-i-2 : goal.overflow_add-pos-in-loop-i-2
 overflow_add-pos-in-loop-i-2 c = let f = fewer (length c.args.mask.now) c.loop-i.i c.args.step (omega arith) in omega arith
-
-pub loop-i-smaller : goal.loop-i-smaller
-loop-i-smaller c = omega arith
 
 pub loop-i-preserved : goal.loop-i-preserved
 loop-i-preserved c = let a = c.args in

@@ -10,22 +10,10 @@ use mathlib.Core.Path.{◌≡◌, refl, ◌∙◌}
 use Prim.Native.Nat.{◌+◌, ◌-◌}
 use Rattle.mender.proofs.write.put_kept.Goals as goal
 
-pub overflow_add-step : goal.overflow_add-step
-overflow_add-step c = omega (arith, c.requires.narrow0, c.requires.narrow1, c.requires.narrow2)
-
-pub overflow_add-step-2 : goal.overflow_add-step-2
-overflow_add-step-2 c = omega (arith, c.requires.narrow0, c.requires.narrow1, c.requires.narrow2)
-
 pub loop-i-init : goal.loop-i-init
 loop-i-init c = let a = c.args in
     let e : length a.mask.now - 0 ≡ length a.mask.now = omega arith in
     rw e (omega arith, refl, c.requires.room, c.requires.small, refl, refl)
-
-pub offset_bounds-mask-i : goal.offset_bounds-mask-i
-offset_bounds-mask-i c = omega arith
-
-pub bounds-mask-i : goal.bounds-mask-i
-bounds-mask-i c = omega arith
 
 pub put_one-end-requires : goal.put_one-end-requires
 put_one-end-requires c = let a = c.args in
@@ -38,14 +26,8 @@ put_one-end-requires c = let a = c.args in
     let i1 = l.invariant.1 in
     record { room = omega arith; small = omega arith; narrow0 = p.narrow0; narrow1 = p.narrow1; narrow2 = p.narrow2; lent = omega (arith, p.lent); short = omega (arith, p.short) }
 
-pub overflow_add-i : goal.overflow_add-i
-overflow_add-i c = omega arith
-
 pub overflow_add-from : goal.overflow_add-from
 overflow_add-from c = let a = c.args in let f = fewer (length a.mask.now) c.loop-i.i (a.w0 + a.w1 + a.w2) (omega arith) in omega arith
-
-pub loop-i-smaller : goal.loop-i-smaller
-loop-i-smaller c = omega arith
 
 pub loop-i-preserved : goal.loop-i-preserved
 loop-i-preserved c = let a = c.args in

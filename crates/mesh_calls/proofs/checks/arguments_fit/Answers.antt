@@ -10,19 +10,6 @@ use borrow.Author.Rules.{rules}
 use Rattle.mesh_calls.proofs.checks.arguments_fit.Goals as goal
 use Rattle.mesh_calls.proofs.checks.arguments_fit.Goals.{else-edition-eq1, then-edition-eq1}
 
--- `mesh_calls::checks::arguments_fit` meets its contract: the test of each job. Assumes nothing.
-pub enum_told-1 : goal.enum_told-1
-enum_told-1 c = omega arith
-
-pub enum_known-job : goal.enum_known-job
-enum_known-job c = omega arith
-
-pub enum_known-job-in-Cut-1 : goal.enum_known-job-in-Cut-1
-enum_known-job-in-Cut-1 c = omega arith
-
-pub enum_told-in-Crack : goal.enum_told-in-Crack
-enum_told-in-Crack c = omega arith
-
 pub returns-in-Straddlers : goal.returns-in-Straddlers
 returns-in-Straddlers c = let A = c.args in job_fits (mesh_at A.k A.in_points.now A.in_roots.now A.in_corners.now A.in_volumes.now A.in_ends.now A.in_lengths.now A.in_outline.now) A.room A.job Straddlers A.list.now c.in-Straddlers.is (room_test A.k A.in_points.now A.in_roots.now A.in_corners.now A.in_volumes.now A.in_ends.now A.in_lengths.now A.in_outline.now A.room refl)
 

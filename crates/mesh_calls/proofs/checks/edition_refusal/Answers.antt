@@ -30,9 +30,6 @@ no_cut (Split v) M h = refl
 no_cut (Cut n b0 b1 f) M h = absurd (h n b0 b1 f refl)
 no_cut (Crack min) M h = refl
 
-pub enum_known-job : goal.enum_known-job
-enum_known-job c = omega arith
-
 pub returns-in_default : goal.returns-in_default
 returns-in_default c = no_cut c.args.job _ c.in_default.not-Cut
 
@@ -45,15 +42,6 @@ returns-then-not-whole_places c = let A = c.args in let arm = c.in-Cut.is in let
   | then-not-whole_places-via-else-not-whole_places+then-not-whole_point w ↦ from_not (mesh_at A.k A.in_points.now A.in_roots.now A.in_corners.now A.in_volumes.now A.in_ends.now A.in_lengths.now A.in_outline.now) A.job _ _ _ _ arm second _ told _ w.whole_point.ensures (ap not w.if-not-whole_point.true)
   | then-not-whole_places-via-else-not-whole_places+else-not-whole_point+then-not-whole_point-2 w ↦ to_not (mesh_at A.k A.in_points.now A.in_roots.now A.in_corners.now A.in_volumes.now A.in_ends.now A.in_lengths.now A.in_outline.now) A.job _ _ _ _ arm second _ told _ w.whole_point-else-not-whole_point.ensures (ap not w.if-not-whole_point-2.true)
 ]
-
-pub enum_told-1 : goal.enum_told-1
-enum_told-1 c = omega arith
-
-pub enum_told-in-Straps : goal.enum_told-in-Straps
-enum_told-in-Straps c = omega arith
-
-pub enum_told-in-Nothing : goal.enum_told-in-Nothing
-enum_told-in-Nothing c = omega arith
 
 pub returns-in-Triangles : goal.returns-in-Triangles
 returns-in-Triangles c = let A = c.args in kind_tells (mesh_at A.k A.in_points.now A.in_roots.now A.in_corners.now A.in_volumes.now A.in_ends.now A.in_lengths.now A.in_outline.now) A.job _ _ _ _ c.in-Cut.is c.if-edition-ne2.false _ (c.whole_places.ensures ∙ places_whole A.k A.in_points.now A.in_roots.now A.in_corners.now A.in_volumes.now A.in_ends.now A.in_lengths.now A.in_outline.now) _ _ (ap not c.if-not-whole_places.false) c.whole_point.ensures (ap not c.if-not-whole_point.false) c.whole_point-else-not-whole_point.ensures (ap not c.if-not-whole_point-2.false) _ Triangles (kind_found A.k A.in_points.now A.in_roots.now A.in_corners.now A.in_volumes.now A.in_ends.now A.in_lengths.now A.in_outline.now _ c.kind_of-kind.ensures) c.in-Triangles.is

@@ -15,17 +15,8 @@ use Rattle.mesh_calls.proofs.checks.whole_places.Goals as goal
 pub loop-i-init : goal.loop-i-init
 loop-i-init c = (omega arith, λ k h. absurd (omega arith))
 
-pub place-requires : goal.place-requires
-place-requires c = omega arith
-
 pub returns-then-not-whole_point : goal.returns-then-not-whole_point
 returns-then-not-whole_point c = whole_stops _ _ c.loop-i.i _ _ c.loop-i-test.true c.place.ensures c.whole_point.ensures (ap not c.if-not-whole_point.true)
-
-pub overflow_add-i : goal.overflow_add-i
-overflow_add-i c = omega arith
-
-pub loop-i-smaller : goal.loop-i-smaller
-loop-i-smaller c = omega arith
 
 pub loop-i-preserved : goal.loop-i-preserved
 loop-i-preserved c = let L = c.loop-i in (omega arith, below_more _ _ L.invariant.1 (whole_goes c.args.points.now L.i _ _ c.place.ensures c.whole_point.ensures (ap not c.if-not-whole_point.false)))

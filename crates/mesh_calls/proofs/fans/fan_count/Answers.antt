@@ -8,15 +8,6 @@ use native.Mathlib.Omega.{arith}
 use borrow.Author.Rules.{rules}
 use Rattle.mesh_calls.proofs.fans.fan_count.Goals as goal
 
-pub enum_told-1 : goal.enum_told-1
-enum_told-1 c = omega arith
-
-pub enum_told-in-Straps : goal.enum_told-in-Straps
-enum_told-in-Straps c = omega arith
-
-pub enum_told-in-Nothing : goal.enum_told-in-Nothing
-enum_told-in-Nothing c = omega arith
-
 pub returns-in-Triangles : goal.returns-in-Triangles
 unfolding elements_in
 returns-in-Triangles c = let A = c.args in λ points roots volumes lengths outline. fan_counted A.v A.k points roots A.corners.now volumes A.ends.now lengths outline _ Triangles _ c.kind_of-kind.ensures c.in-Triangles.is (c.triangles_with.ensures volumes)

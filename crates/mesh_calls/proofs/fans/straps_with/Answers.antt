@@ -15,33 +15,6 @@ use Rattle.mesh_calls.proofs.fans.straps_with.Goals as goal
 pub loop-i-init : goal.loop-i-init
 loop-i-init c = (λ lengths. no_edges _ _ lengths, omega arith, omega arith)
 
-pub overflow_mul-c : goal.overflow_mul-c
-overflow_mul-c c = omega arith
-
-pub overflow_add-c : goal.overflow_add-c
-overflow_add-c c = omega arith
-
-pub offset_bounds-ends-c : goal.offset_bounds-ends-c
-offset_bounds-ends-c c = omega arith
-
-pub offset_bounds-ends-i : goal.offset_bounds-ends-i
-offset_bounds-ends-i c = omega arith
-
-pub overflow_add-c-in-loop-i : goal.overflow_add-c-in-loop-i
-overflow_add-c-in-loop-i c = omega arith
-
-pub offset_bounds-ends-c-in-loop-i : goal.offset_bounds-ends-c-in-loop-i
-offset_bounds-ends-c-in-loop-i c = omega arith
-
-pub overflow_add-n : goal.overflow_add-n
-overflow_add-n c = omega (arith, c.strap_holds-held.ensures.1)
-
-pub overflow_add-i : goal.overflow_add-i
-overflow_add-i c = omega arith
-
-pub loop-i-smaller : goal.loop-i-smaller
-loop-i-smaller c = omega arith
-
 pub loop-i-preserved : goal.loop-i-preserved
 loop-i-preserved c = (λ lengths. strap_counts _ _ _ _ _ lengths (c.loop-i.invariant.0 lengths) c.strap_holds-held.ensures.0, omega (arith, c.strap_holds-held.ensures.1), omega arith)
 

@@ -15,33 +15,6 @@ use Rattle.mesh_calls.proofs.fans.triangles_with.Goals as goal
 pub loop-i-init : goal.loop-i-init
 loop-i-init c = (λ volumes. no_triangles _ _ volumes, omega arith, omega arith)
 
-pub offset_bounds-corners-i : goal.offset_bounds-corners-i
-offset_bounds-corners-i c = omega arith
-
-pub overflow_add-c : goal.overflow_add-c
-overflow_add-c c = omega arith
-
-pub offset_bounds-corners-c : goal.offset_bounds-corners-c
-offset_bounds-corners-c c = omega arith
-
-pub overflow_mul-c : goal.overflow_mul-c
-overflow_mul-c c = omega arith
-
-pub overflow_add-c-in-loop-i : goal.overflow_add-c-in-loop-i
-overflow_add-c-in-loop-i c = omega arith
-
-pub offset_bounds-corners-c-in-loop-i : goal.offset_bounds-corners-c-in-loop-i
-offset_bounds-corners-c-in-loop-i c = omega arith
-
-pub overflow_add-n : goal.overflow_add-n
-overflow_add-n c = omega (arith, c.triangle_holds-held.ensures.1)
-
-pub overflow_add-i : goal.overflow_add-i
-overflow_add-i c = omega arith
-
-pub loop-i-smaller : goal.loop-i-smaller
-loop-i-smaller c = omega arith
-
 pub loop-i-preserved : goal.loop-i-preserved
 loop-i-preserved c = (λ volumes. triangle_counts _ _ _ _ _ volumes (c.loop-i.invariant.0 volumes) c.triangle_holds-held.ensures.0, omega (arith, c.triangle_holds-held.ensures.1), omega arith)
 

@@ -24,12 +24,6 @@ offset_bounds-block-o c =
     let lie : (c.loop-c.o + c.args.stride ≤ length c.loop-c.block)
     × (c.loop-c.a + c.args.n ≤ c.args.width * c.args.n) = let pre = c.requires in words_lie _ _ _ _ _ _ _ _ _ _ c.loop-c.invariant c.loop-c-test.true pre.1 pre.0 in omega (arith, (lie).0)
 
-pub slice_bounds-words_into-count : goal.slice_bounds-words_into-count
-slice_bounds-words_into-count c = omega arith
-
-pub slice_bounds-words_into-start : goal.slice_bounds-words_into-start
-slice_bounds-words_into-start c = omega arith
-
 pub slice_bounds-words_into-end : goal.slice_bounds-words_into-end
 slice_bounds-words_into-end c =
     let lie : (c.loop-c.o + c.args.stride ≤ length c.loop-c.block)
@@ -44,12 +38,6 @@ pub overflow_add-a : goal.overflow_add-a
 overflow_add-a c =
     let lie : (c.loop-c.o + c.args.stride ≤ length c.loop-c.block)
     × (c.loop-c.a + c.args.n ≤ c.args.width * c.args.n) = let pre = c.requires in words_lie _ _ _ _ _ _ _ _ _ _ c.loop-c.invariant c.loop-c-test.true pre.1 pre.0 in omega (arith, (lie).1)
-
-pub overflow_add-c : goal.overflow_add-c
-overflow_add-c c = omega arith
-
-pub loop-c-smaller : goal.loop-c-smaller
-loop-c-smaller c = omega arith
 
 pub loop-c-preserved : goal.loop-c-preserved
 loop-c-preserved c =

@@ -13,59 +13,8 @@ use Rattle.mesh_tables.proofs.corners.strap_corners.Goals.{else-ends-c-eq1, then
 pub loop-i-init : goal.loop-i-init
 loop-i-init c = (omega arith, omega arith, omega arith, refl, strap_corners_none c.args.ends.now c.args.verts.now)
 
-pub overflow_mul-c : goal.overflow_mul-c
-overflow_mul-c c = omega (arith, c.loop-i.invariant.1, c.loop-i.invariant.2, c.loop-i.invariant.3, c.requires.0, c.requires.1)
-
-pub overflow_add-c : goal.overflow_add-c
-overflow_add-c c = omega (arith, c.loop-i.invariant.1, c.loop-i.invariant.2, c.loop-i.invariant.3, c.requires.0, c.requires.1)
-
-pub offset_bounds-ends-c : goal.offset_bounds-ends-c
-offset_bounds-ends-c c = omega (arith, c.loop-i.invariant.1, c.loop-i.invariant.2, c.loop-i.invariant.3, c.requires.0, c.requires.1)
-
-pub bounds-ends-c : goal.bounds-ends-c
-bounds-ends-c c = omega (arith, c.loop-i.invariant.1, c.loop-i.invariant.2, c.loop-i.invariant.3, c.requires.0, c.requires.1)
-
-pub offset_bounds-ends-i : goal.offset_bounds-ends-i
-offset_bounds-ends-i c = omega (arith, c.loop-i.invariant.1, c.loop-i.invariant.2, c.loop-i.invariant.3, c.requires.0, c.requires.1)
-
-pub bounds-ends-i : goal.bounds-ends-i
-bounds-ends-i c = omega (arith, c.loop-i.invariant.1, c.loop-i.invariant.2, c.loop-i.invariant.3, c.requires.0, c.requires.1)
-
-pub offset_bounds-verts-o : goal.offset_bounds-verts-o
-offset_bounds-verts-o c = omega (arith, c.loop-i.invariant.1, c.loop-i.invariant.2, c.loop-i.invariant.3, c.requires.0, c.requires.1)
-
-pub bounds-verts-o : goal.bounds-verts-o
-bounds-verts-o c = omega (arith, c.loop-i.invariant.1, c.loop-i.invariant.2, c.loop-i.invariant.3, c.requires.0, c.requires.1)
-
-pub overflow_add-verts : goal.overflow_add-verts
-overflow_add-verts c = omega (arith, c.loop-i.invariant.1, c.loop-i.invariant.2, c.loop-i.invariant.3, c.requires.0, c.requires.1)
-
-pub offset_bounds-ends-c-then-ends-c-eq1 : goal.offset_bounds-ends-c-then-ends-c-eq1
-offset_bounds-ends-c-then-ends-c-eq1 c = omega (arith, c.loop-i.invariant.1, c.loop-i.invariant.2, c.loop-i.invariant.3, c.requires.0, c.requires.1)
-
-pub bounds-ends-c-then-ends-c-eq1 : goal.bounds-ends-c-then-ends-c-eq1
-bounds-ends-c-then-ends-c-eq1 c = omega (arith, c.loop-i.invariant.1, c.loop-i.invariant.2, c.loop-i.invariant.3, c.requires.0, c.requires.1)
-
-pub overflow_add-verts-then-ends-c-eq1 : goal.overflow_add-verts-then-ends-c-eq1
-overflow_add-verts-then-ends-c-eq1 c = omega (arith, c.loop-i.invariant.1, c.loop-i.invariant.2, c.loop-i.invariant.3, c.requires.0, c.requires.1)
-
-pub offset_bounds-verts-o-then-ends-c-eq1 : goal.offset_bounds-verts-o-then-ends-c-eq1
-offset_bounds-verts-o-then-ends-c-eq1 c = omega (arith, c.loop-i.invariant.1, c.loop-i.invariant.2, c.loop-i.invariant.3, c.requires.0, c.requires.1)
-
 pub bounds-verts-o-then-ends-c-eq1 : goal.bounds-verts-o-then-ends-c-eq1
 bounds-verts-o-then-ends-c-eq1 c = simp length-set (omega (arith, c.loop-i.invariant.1, c.loop-i.invariant.2, c.loop-i.invariant.3, c.requires.0, c.requires.1))
-
-pub overflow_add-o : goal.overflow_add-o
-overflow_add-o c = omega (arith, c.loop-i.invariant.1, c.loop-i.invariant.2, c.loop-i.invariant.3, c.requires.0, c.requires.1)
-
-pub overflow_add-n : goal.overflow_add-n
-overflow_add-n c = omega (arith, c.loop-i.invariant.1, c.loop-i.invariant.2, c.loop-i.invariant.3, c.requires.0, c.requires.1)
-
-pub overflow_add-i : goal.overflow_add-i
-overflow_add-i c = omega (arith, c.loop-i.invariant.1, c.loop-i.invariant.2, c.loop-i.invariant.3, c.requires.0, c.requires.1)
-
-pub loop-i-smaller : goal.loop-i-smaller
-loop-i-smaller c = omega (arith, c.loop-i.invariant.1, c.loop-i.invariant.2, c.loop-i.invariant.3, c.requires.0, c.requires.1)
 
 pub loop-i-preserved : goal.loop-i-preserved
 loop-i-preserved c =

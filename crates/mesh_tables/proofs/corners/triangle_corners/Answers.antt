@@ -11,65 +11,11 @@ use Rattle.mesh_tables.proofs.corners.triangle_corners.Goals as goal
 pub loop-i-init : goal.loop-i-init
 loop-i-init c = (omega arith, omega arith, refl, triangle_corners_none c.args.corners.now c.args.verts.now)
 
-pub offset_bounds-corners-i : goal.offset_bounds-corners-i
-offset_bounds-corners-i c = omega (arith, c.loop-i.invariant.1, c.loop-i.invariant.2, c.requires.0, c.requires.1)
-
-pub bounds-corners-i : goal.bounds-corners-i
-bounds-corners-i c = omega (arith, c.loop-i.invariant.1, c.loop-i.invariant.2, c.requires.0, c.requires.1)
-
-pub offset_bounds-verts-o : goal.offset_bounds-verts-o
-offset_bounds-verts-o c = omega (arith, c.loop-i.invariant.1, c.loop-i.invariant.2, c.requires.0, c.requires.1)
-
-pub bounds-verts-o : goal.bounds-verts-o
-bounds-verts-o c = omega (arith, c.loop-i.invariant.1, c.loop-i.invariant.2, c.requires.0, c.requires.1)
-
-pub overflow_add-verts : goal.overflow_add-verts
-overflow_add-verts c = omega (arith, c.loop-i.invariant.1, c.loop-i.invariant.2, c.requires.0, c.requires.1)
-
-pub offset_bounds-corners-c : goal.offset_bounds-corners-c
-offset_bounds-corners-c c = omega (arith, c.loop-i.invariant.1, c.loop-i.invariant.2, c.requires.0, c.requires.1)
-
-pub bounds-corners-c : goal.bounds-corners-c
-bounds-corners-c c = omega (arith, c.loop-i.invariant.1, c.loop-i.invariant.2, c.requires.0, c.requires.1)
-
-pub overflow_add-verts-in-loop-i : goal.overflow_add-verts-in-loop-i
-overflow_add-verts-in-loop-i c = omega (arith, c.loop-i.invariant.1, c.loop-i.invariant.2, c.requires.0, c.requires.1)
-
-pub offset_bounds-verts-o-in-loop-i : goal.offset_bounds-verts-o-in-loop-i
-offset_bounds-verts-o-in-loop-i c = omega (arith, c.loop-i.invariant.1, c.loop-i.invariant.2, c.requires.0, c.requires.1)
-
 pub bounds-verts-o-in-loop-i : goal.bounds-verts-o-in-loop-i
 bounds-verts-o-in-loop-i c = simp length-set (omega (arith, c.loop-i.invariant.1, c.loop-i.invariant.2, c.requires.0, c.requires.1))
 
-pub overflow_mul-verts : goal.overflow_mul-verts
-overflow_mul-verts c = omega (arith, c.loop-i.invariant.1, c.loop-i.invariant.2, c.requires.0, c.requires.1)
-
-pub overflow_add-verts-in-loop-i-2 : goal.overflow_add-verts-in-loop-i-2
-overflow_add-verts-in-loop-i-2 c = omega (arith, c.loop-i.invariant.1, c.loop-i.invariant.2, c.requires.0, c.requires.1)
-
-pub offset_bounds-corners-c-in-loop-i : goal.offset_bounds-corners-c-in-loop-i
-offset_bounds-corners-c-in-loop-i c = omega (arith, c.loop-i.invariant.1, c.loop-i.invariant.2, c.requires.0, c.requires.1)
-
-pub bounds-corners-c-in-loop-i : goal.bounds-corners-c-in-loop-i
-bounds-corners-c-in-loop-i c = omega (arith, c.loop-i.invariant.1, c.loop-i.invariant.2, c.requires.0, c.requires.1)
-
-pub overflow_add-verts-in-loop-i-3 : goal.overflow_add-verts-in-loop-i-3
-overflow_add-verts-in-loop-i-3 c = omega (arith, c.loop-i.invariant.1, c.loop-i.invariant.2, c.requires.0, c.requires.1)
-
-pub offset_bounds-verts-o-in-loop-i-2 : goal.offset_bounds-verts-o-in-loop-i-2
-offset_bounds-verts-o-in-loop-i-2 c = omega (arith, c.loop-i.invariant.1, c.loop-i.invariant.2, c.requires.0, c.requires.1)
-
 pub bounds-verts-o-in-loop-i-2 : goal.bounds-verts-o-in-loop-i-2
 bounds-verts-o-in-loop-i-2 c = simp length-set (omega (arith, c.loop-i.invariant.1, c.loop-i.invariant.2, c.requires.0, c.requires.1))
-
-pub overflow_add-o : goal.overflow_add-o
-overflow_add-o c = omega (arith, c.loop-i.invariant.1, c.loop-i.invariant.2, c.requires.0, c.requires.1)
-
-pub overflow_add-i : goal.overflow_add-i
-overflow_add-i c = omega (arith, c.loop-i.invariant.1, c.loop-i.invariant.2, c.requires.0, c.requires.1)
-
-pub loop-i-smaller : goal.loop-i-smaller
-loop-i-smaller c = omega (arith, c.loop-i.invariant.1, c.loop-i.invariant.2, c.requires.0, c.requires.1)
 
 pub loop-i-preserved : goal.loop-i-preserved
 loop-i-preserved c =

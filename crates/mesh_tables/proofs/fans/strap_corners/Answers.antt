@@ -15,45 +15,6 @@ use Rattle.mesh_tables.proofs.fans.strap_corners.Goals.{else-strap_holds, then-s
 pub loop-i-init : goal.loop-i-init
 loop-i-init c = let A = c.args in (λ M. rw (no_straps A.v A.ends.now M) (corners_none 2 _), refl, omega arith, omega arith)
 
-pub offset_bounds-ends-i : goal.offset_bounds-ends-i
-offset_bounds-ends-i c = omega arith
-
-pub bounds-ends-i : goal.bounds-ends-i
-bounds-ends-i c = omega arith
-
-pub overflow_add-y : goal.overflow_add-y
-overflow_add-y c = omega arith
-
-pub offset_bounds-ends-c : goal.offset_bounds-ends-c
-offset_bounds-ends-c c = omega arith
-
-pub bounds-ends-c : goal.bounds-ends-c
-bounds-ends-c c = omega arith
-
-pub overflow_mul-c : goal.overflow_mul-c
-overflow_mul-c c = omega arith
-
-pub overflow_add-c : goal.overflow_add-c
-overflow_add-c c = omega arith
-
-pub offset_bounds-ends-c-in-loop-i : goal.offset_bounds-ends-c-in-loop-i
-offset_bounds-ends-c-in-loop-i c = omega arith
-
-pub strap_holds-requires : goal.strap_holds-requires
-strap_holds-requires c = omega arith
-
-pub put_two-requires : goal.put_two-requires
-put_two-requires c = omega arith
-
-pub overflow_add-r : goal.overflow_add-r
-overflow_add-r c = omega arith
-
-pub overflow_add-i : goal.overflow_add-i
-overflow_add-i c = omega arith
-
-pub loop-i-smaller : goal.loop-i-smaller
-loop-i-smaller c = omega arith
-
 pub loop-i-preserved : goal.loop-i-preserved
 loop-i-preserved c = let A = c.args in
     let inv = c.loop-i.invariant in

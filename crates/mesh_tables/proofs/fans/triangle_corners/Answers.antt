@@ -15,48 +15,6 @@ use Rattle.mesh_tables.proofs.fans.triangle_corners.Goals.{else-triangle_holds, 
 pub loop-i-init : goal.loop-i-init
 loop-i-init c = let A = c.args in (λ M. rw (no_triangles A.v A.corners.now M) (corners_none 3 _), refl, omega arith, omega arith)
 
-pub offset_bounds-corners-i : goal.offset_bounds-corners-i
-offset_bounds-corners-i c = omega arith
-
-pub bounds-corners-i : goal.bounds-corners-i
-bounds-corners-i c = omega arith
-
-pub overflow_add-y : goal.overflow_add-y
-overflow_add-y c = omega arith
-
-pub offset_bounds-corners-c : goal.offset_bounds-corners-c
-offset_bounds-corners-c c = omega arith
-
-pub bounds-corners-c : goal.bounds-corners-c
-bounds-corners-c c = omega arith
-
-pub overflow_mul-z : goal.overflow_mul-z
-overflow_mul-z c = omega arith
-
-pub overflow_add-z : goal.overflow_add-z
-overflow_add-z c = omega arith
-
-pub offset_bounds-corners-c-in-loop-i : goal.offset_bounds-corners-c-in-loop-i
-offset_bounds-corners-c-in-loop-i c = omega arith
-
-pub bounds-corners-c-in-loop-i : goal.bounds-corners-c-in-loop-i
-bounds-corners-c-in-loop-i c = omega arith
-
-pub triangle_holds-requires : goal.triangle_holds-requires
-triangle_holds-requires c = omega arith
-
-pub put_three-requires : goal.put_three-requires
-put_three-requires c = omega arith
-
-pub overflow_add-r : goal.overflow_add-r
-overflow_add-r c = omega arith
-
-pub overflow_add-i : goal.overflow_add-i
-overflow_add-i c = omega arith
-
-pub loop-i-smaller : goal.loop-i-smaller
-loop-i-smaller c = omega arith
-
 pub loop-i-preserved : goal.loop-i-preserved
 loop-i-preserved c = let A = c.args in
     let inv = c.loop-i.invariant in

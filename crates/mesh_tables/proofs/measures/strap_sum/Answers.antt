@@ -17,33 +17,6 @@ pub loop-i-init : goal.loop-i-init
 unfolding of_bits
 loop-i-init c = (omega arith, sym (straps_none c.args.ends.now c.args.lengths.now))
 
-pub overflow_mul-c : goal.overflow_mul-c
-overflow_mul-c c = omega (arith, c.requires.0, c.requires.1)
-
-pub overflow_add-c : goal.overflow_add-c
-overflow_add-c c = omega (arith, c.requires.0, c.requires.1)
-
-pub offset_bounds-ends-c : goal.offset_bounds-ends-c
-offset_bounds-ends-c c = omega (arith, c.requires.0, c.requires.1)
-
-pub bounds-ends-c : goal.bounds-ends-c
-bounds-ends-c c = omega (arith, c.requires.0, c.requires.1)
-
-pub overflow_add-s : goal.overflow_add-s
-overflow_add-s c = omega (arith, c.requires.0, c.requires.1)
-
-pub offset_bounds-lengths-m : goal.offset_bounds-lengths-m
-offset_bounds-lengths-m c = omega (arith, c.requires.0, c.requires.1)
-
-pub bounds-lengths-m : goal.bounds-lengths-m
-bounds-lengths-m c = omega (arith, c.requires.0, c.requires.1)
-
-pub overflow_add-i : goal.overflow_add-i
-overflow_add-i c = omega (arith, c.requires.0, c.requires.1)
-
-pub loop-i-smaller : goal.loop-i-smaller
-loop-i-smaller c = omega (arith, c.requires.0, c.requires.1)
-
 pub loop-i-preserved : goal.loop-i-preserved
 loop-i-preserved c =
     let A = c.args in

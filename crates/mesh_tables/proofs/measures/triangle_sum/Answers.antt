@@ -14,21 +14,6 @@ pub loop-i-init : goal.loop-i-init
 unfolding of_bits
 loop-i-init c = (omega arith, sym (triangles_none c.args.corners.now c.args.volumes.now))
 
-pub offset_bounds-volumes-i : goal.offset_bounds-volumes-i
-offset_bounds-volumes-i c = omega (arith, c.requires)
-
-pub bounds-volumes-i : goal.bounds-volumes-i
-bounds-volumes-i c = omega (arith, c.requires)
-
-pub abs-s-requires : goal.abs-s-requires
-abs-s-requires c = omega arith
-
-pub overflow_add-i : goal.overflow_add-i
-overflow_add-i c = omega arith
-
-pub loop-i-smaller : goal.loop-i-smaller
-loop-i-smaller c = omega arith
-
 pub loop-i-preserved : goal.loop-i-preserved
 loop-i-preserved c =
     let A = c.args in

@@ -21,10 +21,7 @@ loop-e-init c =
     let P = c.requires in
     let chain = chain_at A.a.now A.b.now A.c.now in
     let k = A.x % 1024 in
-    (omega arith, walk_start A.a.now A.b.now A.c.now A.x A.y A.m _ (subst (λ (e : ℕ). LastBefore chain k (3 * A.m) e) (sym c.wide-e.ensures) (P.chained.head k (omega arith))))
-
-pub overflow_sub-s : goal.overflow_sub-s
-overflow_sub-s c = omega arith
+    (omega arith, walk_start A.a.now A.b.now A.c.now A.x A.y A.m _ (subst (λ (e : ℕ). LastBefore chain k (3 * A.m) e) (sym c.from-e.ensures) (P.chained.head k (omega arith))))
 
 pub holds_before-requires : goal.holds_before-requires
 holds_before-requires c =
@@ -44,9 +41,6 @@ returns-then-n-eq1 c =
     let one : L.n ≡ 1 = search rules in
     omega (arith, W.count)
 
-pub overflow_add-n : goal.overflow_add-n
-overflow_add-n c = omega (arith, c.loop-e.invariant.0)
-
 pub offset_bounds-links-s : goal.offset_bounds-links-s
 offset_bounds-links-s c =
     let P = c.requires in
@@ -65,7 +59,7 @@ loop-e-smaller c =
     let P = c.requires in
     let L = c.loop-e in
     let h : L.e - 1 < 3 * A.m = omega (arith, L.invariant.1.below) in
-    omega (arith, (P.chained.link (L.e - 1) h).below, c.wide-e-in-loop-e.ensures)
+    omega (arith, (P.chained.link (L.e - 1) h).below, c.from-e-in-loop-e.ensures)
 
 pub loop-e-preserved : goal.loop-e-preserved
 loop-e-preserved c =
@@ -79,8 +73,8 @@ loop-e-preserved c =
     let l : 0 < L.e = search rules in
     let h : L.e - 1 < 3 * A.m = omega (arith, L.invariant.1.below) in
     let j = (L.e - 1) / 3 in
-    let f = c.wide-e-in-loop-e.result in
-    let K = subst (λ (e : ℕ). LastBefore (chain_at a b d) (chain_at a b d (L.e - 1)) (L.e - 1) e) (sym c.wide-e-in-loop-e.ensures) (P.chained.link (L.e - 1) h) in
+    let f = c.from-e-in-loop-e.result in
+    let K = subst (λ (e : ℕ). LastBefore (chain_at a b d) (chain_at a b d (L.e - 1)) (L.e - 1) e) (sym c.from-e-in-loop-e.ensures) (P.chained.link (L.e - 1) h) in
     elim c.if-holds_before.branch [
       | then-holds_before+else-n-eq1 w ↦ (omega (arith, L.invariant.0, w.n-is), subst (λ (n : ℕ). Walk a b d A.x A.y A.m n j f) (sym w.n-is) (walk_hit a b d A.x A.y A.m L.n L.t L.e f L.invariant.1 l K (sym H.ensures ∙ w.if-holds_before.true)))
       | else-holds_before w ↦ (omega (arith, L.invariant.0, w.n-is), subst (λ (n : ℕ). Walk a b d A.x A.y A.m n j f) (sym w.n-is) (walk_pass a b d A.x A.y A.m L.n L.t L.e f L.invariant.1 l K (sym H.ensures ∙ w.if-holds_before.false)))

@@ -50,14 +50,6 @@ bounds-links-t c =
     let K = c.chain_of-k in
     omega (arith, K.ensures, chain_below A.a.now A.b.now A.c.now L.t, P.few, P.heads_long, P.links_long, P.sizes_long, L.invariant.1, L.invariant.2, L.invariant.3)
 
-pub overflow_add-t : goal.overflow_add-t
-overflow_add-t c =
-    let A = c.args in
-    let P = c.requires in
-    let L = c.loop-t in
-    let K = c.chain_of-k in
-    omega (arith, K.ensures, chain_below A.a.now A.b.now A.c.now L.t, P.few, P.heads_long, P.links_long, P.sizes_long, L.invariant.1, L.invariant.2, L.invariant.3)
-
 pub overflow_cast-heads : goal.overflow_cast-heads
 overflow_cast-heads c =
     let A = c.args in
@@ -98,22 +90,6 @@ bounds-sizes-k c =
     let K = c.chain_of-k in
     omega (arith, K.ensures, chain_below A.a.now A.b.now A.c.now L.t, P.few, P.heads_long, P.links_long, P.sizes_long, L.invariant.1, L.invariant.2, L.invariant.3)
 
-pub overflow_add-sizes : goal.overflow_add-sizes
-overflow_add-sizes c =
-    let A = c.args in
-    let P = c.requires in
-    let L = c.loop-t in
-    let K = c.chain_of-k in
-    omega (arith, K.ensures, chain_below A.a.now A.b.now A.c.now L.t, P.few, P.heads_long, P.links_long, P.sizes_long, L.invariant.1, L.invariant.2, L.invariant.3, L.invariant.5.most K.result)
-
-pub offset_bounds-sizes-k-in-loop-t : goal.offset_bounds-sizes-k-in-loop-t
-offset_bounds-sizes-k-in-loop-t c =
-    let A = c.args in
-    let P = c.requires in
-    let L = c.loop-t in
-    let K = c.chain_of-k in
-    omega (arith, K.ensures, chain_below A.a.now A.b.now A.c.now L.t, P.few, P.heads_long, P.links_long, P.sizes_long, L.invariant.1, L.invariant.2, L.invariant.3)
-
 pub bounds-sizes-k-in-loop-t : goal.bounds-sizes-k-in-loop-t
 bounds-sizes-k-in-loop-t c =
     let A = c.args in
@@ -122,8 +98,13 @@ bounds-sizes-k-in-loop-t c =
     let K = c.chain_of-k in
     omega (arith, K.ensures, chain_below A.a.now A.b.now A.c.now L.t, P.few, P.heads_long, P.links_long, P.sizes_long, L.invariant.1, L.invariant.2, L.invariant.3)
 
-pub loop-t-smaller : goal.loop-t-smaller
-loop-t-smaller c = omega arith
+pub overflow_add-sizes : goal.overflow_add-sizes
+overflow_add-sizes c =
+    let A = c.args in
+    let P = c.requires in
+    let L = c.loop-t in
+    let K = c.chain_of-k in
+    omega (arith, K.ensures, chain_below A.a.now A.b.now A.c.now L.t, P.few, P.heads_long, P.links_long, P.sizes_long, L.invariant.1, L.invariant.2, L.invariant.3, L.invariant.5.most K.result)
 
 pub loop-t-preserved : goal.loop-t-preserved
 loop-t-preserved c =

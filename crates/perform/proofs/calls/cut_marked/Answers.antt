@@ -1,4 +1,5 @@
 -- `perform::calls::cut_marked` meets its contract: the cut comes behind its marks, unless they tell that there is none. Assumes nothing.
+use Rattle.std.proofs.lemmas.Result.{err_from_is_err_and}
 use mathlib.Core.Path.{refl, sym, ◌∙◌, ap}
 use borrow.Author.Rules.{rules}
 use Rattle.elements.specs.Table.{kind_is}
@@ -13,68 +14,32 @@ use Rattle.perform.proofs.Worked.{marked_indexed, marks_refused, marks_done}
 use Rattle.perform.proofs.calls.cut_marked.Goals as goal
 
 -- `perform::calls::cut_marked` meets its contract: the cut comes behind its marks, unless they tell that there is none. Assumes nothing.
-pub note_crossings-ran-requires : goal.note_crossings-ran-requires
-note_crossings-ran-requires c = c.requires.0
+pub note_crossings-requires : goal.note_crossings-requires
+note_crossings-requires c = c.requires.0
 
-pub shape_of-points-in_default : goal.shape_of-points-in_default
-shape_of-points-in_default c = refl
+pub shape_of-log-in_err-counts : goal.shape_of-log-in_err-counts
+shape_of-log-in_err-counts c = c.note_crossings.auto.log
 
-pub shape_of-roots-in_default : goal.shape_of-roots-in_default
-shape_of-roots-in_default c = refl
-
-pub shape_of-corners-in_default : goal.shape_of-corners-in_default
-shape_of-corners-in_default c = refl
-
-pub shape_of-ends-in_default : goal.shape_of-ends-in_default
-shape_of-ends-in_default c = refl
-
-pub shape_of-lengths-in_default : goal.shape_of-lengths-in_default
-shape_of-lengths-in_default c = refl
-
-pub shape_of-outline-in_default : goal.shape_of-outline-in_default
-shape_of-outline-in_default c = refl
-
-pub shape_of-log-in_default : goal.shape_of-log-in_default
-shape_of-log-in_default c = c.note_crossings-ran.auto.log
-
-pub returns-in_default : goal.returns-in_default
-returns-in_default c =
+pub returns-in_err-counts : goal.returns-in_err-counts
+returns-in_err-counts c =
     let A = c.args in
-    marks_refused (kind_is A.kind) (blade_by A.rule A.b0 A.b1) A.f c.note_crossings-ran.ensures _ c.in_default.is
-
-pub shape_of-points-then-passed_by : goal.shape_of-points-then-passed_by
-shape_of-points-then-passed_by c = refl
-
-pub shape_of-roots-then-passed_by : goal.shape_of-roots-then-passed_by
-shape_of-roots-then-passed_by c = refl
-
-pub shape_of-corners-then-passed_by : goal.shape_of-corners-then-passed_by
-shape_of-corners-then-passed_by c = refl
-
-pub shape_of-ends-then-passed_by : goal.shape_of-ends-then-passed_by
-shape_of-ends-then-passed_by c = refl
-
-pub shape_of-lengths-then-passed_by : goal.shape_of-lengths-then-passed_by
-shape_of-lengths-then-passed_by c = refl
-
-pub shape_of-outline-then-passed_by : goal.shape_of-outline-then-passed_by
-shape_of-outline-then-passed_by c = refl
+    let p = err_from_is_err_and c.from_residual.result c.from_residual.ensures.1 in rw (p.1, p.2, sym c.in_err-counts.was) (marks_refused (kind_is A.kind) (blade_by A.rule A.b0 A.b1) A.f c.note_crossings.ensures _ c.in_err-counts.was)
 
 pub shape_of-log-then-passed_by : goal.shape_of-log-then-passed_by
-shape_of-log-then-passed_by c = c.note_crossings-ran.auto.log
+shape_of-log-then-passed_by c = c.note_crossings.auto.log
 
 pub returns-then-passed_by : goal.returns-then-passed_by
 returns-then-passed_by c =
     let A = c.args in
-    marks_passed A.rule A.kind A.b0 A.b1 A.f _ (sym c.passed_by.ensures ∙ c.if-passed_by.true) (λ z. ap (λ (x : World). x.log) (unlogged _ _ _ _ _ _ _ _ _ z)) (works_known _ _ c.in-Done.is c.note_crossings-ran.ensures)
+    marks_passed A.rule A.kind A.b0 A.b1 A.f _ (sym c.passed_by.ensures ∙ c.if-passed_by.true) (λ z. ap (λ (x : World). x.log) (unlogged _ _ _ _ _ _ _ _ _ z)) (works_known _ _ c.in_ok-counts.was c.note_crossings.ensures)
 
 pub run-requires : goal.run-requires
 unfolding world_at
 run-requires c =
     let A = c.args in
     let P = c.requires in
-    let S = c.note_crossings-ran in
-    let F = works_known _ _ c.in-Done.is S.ensures in (
+    let S = c.note_crossings in
+    let F = works_known _ _ c.in_ok-counts.was S.ensures in (
       left_ready F P.1.entries P.1.words (marked_indexed (kind_is A.kind) (blade_by A.rule A.b0 A.b1)) A.k _ _ P.0 (lent_path _ _ refl refl refl refl refl refl refl S.auto.log),
       record { entries = left_entries F P.1.entries P.1.words; words = left_words F P.1.entries P.1.words },
       P.2,
@@ -99,7 +64,7 @@ pub shape_of-outline : goal.shape_of-outline
 shape_of-outline c = c.run.auto.outline
 
 pub shape_of-log : goal.shape_of-log
-shape_of-log c = c.run.auto.log ∙ c.note_crossings-ran.auto.log
+shape_of-log c = c.run.auto.log ∙ c.note_crossings.auto.log
 
 pub shape_of-list : goal.shape_of-list
 shape_of-list c = c.run.auto.list
@@ -107,4 +72,4 @@ shape_of-list c = c.run.auto.list
 pub returns : goal.returns
 returns c =
     let A = c.args in
-    marks_done (kind_is A.kind) (blade_by A.rule A.b0 A.b1) A.f c.note_crossings-ran.ensures _ c.in-Done.is c.run.ensures
+    marks_done (kind_is A.kind) (blade_by A.rule A.b0 A.b1) A.f c.note_crossings.ensures _ c.in_ok-counts.was c.run.ensures

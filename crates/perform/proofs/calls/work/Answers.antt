@@ -8,10 +8,6 @@ use Rattle.perform.proofs.Worked.{straddlers_room, parts_unlisted, job_works, sp
 use borrow.Author.Rules.{rules}
 use Rattle.perform.proofs.calls.work.Goals as goal
 
--- `perform::calls::work` meets its contract: the kind of the mesh, and the worker of each job. Assumes nothing.
-pub bounds-gone-2048 : goal.bounds-gone-2048
-bounds-gone-2048 c = omega (arith, c.requires.3)
-
 pub kind_of-kind-requires : goal.kind_of-kind-requires
 kind_of-kind-requires c = let P = c.requires.0 in omega (arith, c.requires.0.counts.edges, c.requires.0.rooms.ends)
 
@@ -29,9 +25,6 @@ bounds-gone-2048-in-Cut c = let A = c.args in omega (arith, length-set A.gone.no
 
 pub crack_body-requires : goal.crack_body-requires
 crack_body-requires c = (c.requires.0, c.requires.1)
-
-pub shape_of-corners-in-Straddlers : goal.shape_of-corners-in-Straddlers
-shape_of-corners-in-Straddlers c = refl
 
 pub shape_of-ends-in-Straddlers : goal.shape_of-ends-in-Straddlers
 shape_of-ends-in-Straddlers c = c.remove_straddlers.auto.ends

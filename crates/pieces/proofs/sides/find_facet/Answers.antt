@@ -17,13 +17,13 @@ offset_bounds-lows-s c = omega (arith, (c.loop-e.invariant c.requires).below, c.
 pub bounds-lows-s : goal.bounds-lows-s
 bounds-lows-s c = omega (arith, (c.loop-e.invariant c.requires).below, c.requires.lows_long)
 
-pub returns-then-wide-low : goal.returns-then-wide-low
-returns-then-wide-low c = λ P.
+pub returns-then-from-low : goal.returns-then-from-low
+returns-then-from-low c = λ P.
     let L = c.loop-e in
     let l : 0 < L.e = search rules in
     let o : L.e - 1 < P.t = omega (arith, (L.invariant P).below) in
     let F = P.filed.low (L.e - 1) o in
-    seek_found P.f P.g P.t (L.invariant P) l (sym F ∙ sym c.wide.ensures ∙ c.if-wide-low.true ∙ P.is_low)
+    seek_found P.f P.g P.t (L.invariant P) l (sym F ∙ sym c.from.ensures ∙ c.if-from-low.true ∙ P.is_low)
 
 pub offset_bounds-links-s : goal.offset_bounds-links-s
 offset_bounds-links-s c = omega (arith, (c.loop-e.invariant c.requires).below, c.requires.links_long)
@@ -38,7 +38,7 @@ loop-e-smaller c =
     let l : 0 < L.e = search rules in
     let o : L.e - 1 < P.t = omega (arith, (L.invariant P).below) in
     let F = P.filed.link (L.e - 1) o in
-    omega (arith, c.wide-e.ensures, F.below)
+    omega (arith, c.from-e.ensures, F.below)
 
 pub loop-e-preserved : goal.loop-e-preserved
 loop-e-preserved c = λ P.
@@ -46,9 +46,9 @@ loop-e-preserved c = λ P.
     let l : 0 < L.e = search rules in
     let o : L.e - 1 < P.t = omega (arith, (L.invariant P).below) in
     let F = P.filed.low (L.e - 1) o in
-    let ne : P.f (L.e - 1) ≡ P.f P.t → ⊥ = λ q. c.if-wide-low.false (c.wide.ensures ∙ F ∙ q ∙ sym P.is_low) in
+    let ne : P.f (L.e - 1) ≡ P.f P.t → ⊥ = λ q. c.if-from-low.false (c.from.ensures ∙ F ∙ q ∙ sym P.is_low) in
     seek_pass P.f P.g P.t (L.invariant P) l ne
-    (subst (λ (x : ℕ). LastIn P.f P.g (3 * P.f (L.e - 1) + P.g (L.e - 1)) (L.e - 1) x) (sym c.wide-e.ensures) (P.filed.link (L.e - 1) o))
+    (subst (λ (x : ℕ). LastIn P.f P.g (3 * P.f (L.e - 1) + P.g (L.e - 1)) (L.e - 1) x) (sym c.from-e.ensures) (P.filed.link (L.e - 1) o))
 
 pub returns : goal.returns
 returns c = λ P.

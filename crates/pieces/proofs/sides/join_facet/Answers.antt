@@ -89,7 +89,7 @@ pub find_facet-e-requires : goal.find_facet-e-requires
 find_facet-e-requires c =
     let P = c.requires in
     let F = facet_with c.smaller_of-low.ensures c.larger_of-high.ensures P.step in
-    sought P.room F P.sided c.wide.result c.wide.ensures
+    sought P.room F P.sided c.from.result c.from.ensures
 
 pub element_of-j-requires : goal.element_of-j-requires
 element_of-j-requires c = c.requires.room.rows.some
@@ -99,7 +99,7 @@ join-requires c =
     let P = c.requires in
     let F = facet_with c.smaller_of-low.ensures c.larger_of-high.ensures P.step in
     let l : 0 < c.find_facet-e.result = search rules in
-    join_ready P.room F P.sided (c.find_facet-e.ensures (sought P.room F P.sided c.wide.result c.wide.ensures)) l c.element_of-j.ensures
+    join_ready P.room F P.sided (c.find_facet-e.ensures (sought P.room F P.sided c.from.result c.from.ensures)) l c.element_of-j.ensures
 
 pub shape_of-heads-then-e-gt0 : goal.shape_of-heads-then-e-gt0
 shape_of-heads-then-e-gt0 c = length-set c.args.heads.now _ _
@@ -117,7 +117,7 @@ pub returns-then-e-gt0 : goal.returns-then-e-gt0
 returns-then-e-gt0 c = λ n verts R step S.
     let F = facet_with c.smaller_of-low.ensures c.larger_of-high.ensures step in
     let l : 0 < c.find_facet-e.result = search rules in
-    sided_join R F S (c.find_facet-e.ensures (sought R F S c.wide.result c.wide.ensures)) l c.element_of-j.ensures c.join.ensures
+    sided_join R F S (c.find_facet-e.ensures (sought R F S c.from.result c.from.ensures)) l c.element_of-j.ensures c.join.ensures
 
 pub shape_of-heads-else-e-gt0 : goal.shape_of-heads-else-e-gt0
 shape_of-heads-else-e-gt0 c = length-set c.args.heads.now _ _
@@ -132,4 +132,4 @@ pub returns-else-e-gt0 : goal.returns-else-e-gt0
 returns-else-e-gt0 c = λ n verts R step S.
     let F = facet_with c.smaller_of-low.ensures c.larger_of-high.ensures step in
     let z : c.find_facet-e.result ≡ 0 = omega (arith, c.if-e-gt0.false) in
-    sided_pass R F S (c.find_facet-e.ensures (sought R F S c.wide.result c.wide.ensures)) z
+    sided_pass R F S (c.find_facet-e.ensures (sought R F S c.from.result c.from.ensures)) z

@@ -1,15 +1,15 @@
 -- `reading_c::questions::ask_groups` meets its contract: few sides are asked about in a small table, any others in a large one. Assumes nothing.
+use native.Mathlib.Omega.{arith}
 use Rattle.reading_c.proofs.questions.ask_groups.Goals as goal
 
--- `reading_c::questions::ask_groups` meets its contract: few sides are asked about in a small table, any others in a large one. Assumes nothing.
-pub few_groups-requires : goal.few_groups-requires
-few_groups-requires c = c.if-list-le-SIDES.true
+pub groups_in-requires : goal.groups_in-requires
+groups_in-requires c = (c.if-list-le-FEW_SIDES.true, omega arith)
 
-pub returns-then-list-le-SIDES : goal.returns-then-list-le-SIDES
-returns-then-list-le-SIDES c = c.few_groups.ensures
+pub returns-then-list-le-FEW_SIDES : goal.returns-then-list-le-FEW_SIDES
+returns-then-list-le-FEW_SIDES c = c.groups_in.ensures
 
-pub many_groups-requires : goal.many_groups-requires
-many_groups-requires c = c.requires
+pub groups_in-requires-2 : goal.groups_in-requires-2
+groups_in-requires-2 c = (c.requires, omega arith)
 
 pub returns : goal.returns
-returns c = c.many_groups.ensures
+returns c = c.groups_in-2.ensures

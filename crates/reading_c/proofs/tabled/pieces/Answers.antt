@@ -1,24 +1,26 @@
 -- `reading_c::tabled::pieces` meets its contract: the faults of the mesh, or its pieces. Assumes nothing.
-use mathlib.Core.Path.{sym, ◌∙◌}
+use native.Mathlib.Omega.{arith}
+use mathlib.Core.Path.{refl, sym, ◌∙◌}
+use Rattle.mesh.proofs.Refused.{refused_some}
 use Rattle.image.proofs.Loading.{sized_counts}
-use Rattle.readings.proofs.Refusing.{pieces_refuses, pieces_answers}
-use Rattle.reading_c.proofs.Tabling.{fault_is, no_fault}
+use Rattle.readings.proofs.Refusing.{answer_handed, pieces_refuses, pieces_answers}
+use Rattle.reading_c.proofs.Tabling.{fault_is, no_fault, small_room, large_room}
 use Rattle.reading_c.proofs.tabled.pieces.Goals as goal
 
-pub returns-then-code-ne0 : goal.returns-then-code-ne0
-returns-then-code-ne0 c = pieces_refuses _ _ (fault_is _ c.requires _ c.image_fault-code.ensures) c.if-code-ne0.true
+pub returns-in_err-image_fault : goal.returns-in_err-image_fault
+returns-in_err-image_fault c = answer_handed _ _ c.from_residual.ensures.1 ∙ pieces_refuses _ _ (fault_is _ c.requires _ c.in_err-image_fault.ensures) (refused_some _)
 
 pub is_small-requires : goal.is_small-requires
 is_small-requires c = sized_counts _ c.requires
 
-pub small_pieces-requires : goal.small_pieces-requires
-small_pieces-requires c = (no_fault _ c.requires _ c.image_fault-code.ensures c.if-code-ne0.false, sym c.is_small.ensures ∙ c.if-is_small.true)
+pub pieces_in-requires : goal.pieces_in-requires
+pieces_in-requires c = (small_room (no_fault _ c.requires _ c.in_ok-image_fault.ensures refl) (sym c.is_small.ensures ∙ c.if-is_small.true), omega arith, omega arith)
 
 pub returns-then-is_small : goal.returns-then-is_small
-returns-then-is_small c = pieces_answers _ _ _ (fault_is _ c.requires _ c.image_fault-code.ensures) c.if-code-ne0.false c.small_pieces.ensures
+returns-then-is_small c = pieces_answers _ _ _ (fault_is _ c.requires _ c.in_ok-image_fault.ensures) refl c.pieces_in.ensures
 
-pub large_pieces-requires : goal.large_pieces-requires
-large_pieces-requires c = no_fault _ c.requires _ c.image_fault-code.ensures c.if-code-ne0.false
+pub pieces_in-requires-2 : goal.pieces_in-requires-2
+pieces_in-requires-2 c = (large_room (no_fault _ c.requires _ c.in_ok-image_fault.ensures refl), omega arith, omega arith)
 
 pub returns : goal.returns
-returns c = pieces_answers _ _ _ (fault_is _ c.requires _ c.image_fault-code.ensures) c.if-code-ne0.false c.large_pieces.ensures
+returns c = pieces_answers _ _ _ (fault_is _ c.requires _ c.in_ok-image_fault.ensures) refl c.pieces_in-2.ensures

@@ -1,6 +1,5 @@
 -- `readings::grouping::fan_opens` meets its contract: the groups, and the walk from them. Assumes nothing.
 use lib.ListN.{length}
-use borrow.Author.Rules.{rules}
 use mathlib.Core.Path.{sym}
 use lib.Seq.{length-take-le}
 use Rattle.readings.proofs.Grouped.{fan_fits, front_long, walked}

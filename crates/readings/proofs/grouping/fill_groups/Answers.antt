@@ -2,7 +2,6 @@
 use Rattle.readings.proofs.Grouped.{fan_fits, filled}
 use lib.Seq.{length-take-le}
 use mathlib.Core.Path.{sym}
-use borrow.Author.Rules.{rules}
 use Rattle.readings.proofs.grouping.fill_groups.Goals as goal
 
 pub slice_bounds-groups_of-end-2 : goal.slice_bounds-groups_of-end-2
@@ -14,4 +13,4 @@ groups_of-n-requires c = let P = c.requires in
 
 pub returns : goal.returns
 returns c = let G = c.groups_of-n in
-    filled _ _ _ _ G.auto.groups c.requires.1 G.ensures c.clear_usize.ensures
+    filled _ _ _ _ G.auto.groups c.requires.1 G.ensures c.clear.ensures

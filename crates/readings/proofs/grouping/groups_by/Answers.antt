@@ -10,7 +10,6 @@ use Rattle.mesh_tables.proofs.Accepted.{Few}
 use Rattle.mesh_tables.proofs.FanRead.{corners_few, fan_read}
 use Rattle.mesh_tables.proofs.Checked.{accepted}
 use Rattle.readings.proofs.Grouped.{grid_is, fan_asked, roomy_fan, sides_by, groups_answered, groups_refused, four_of}
-use borrow.Author.Rules.{rules}
 use Rattle.readings.proofs.grouping.groups_by.Goals as goal
 
 pub overflow_mul-end : goal.overflow_mul-end
@@ -60,4 +59,4 @@ returns c = let A = c.args in
     λ points roots volumes lengths outline pe fault.
     let G = given points roots A.corners.now volumes A.ends.now lengths outline in
     let F = fan_read G (accepted G fault) A.v _ c.kind_of-kind.ensures _ _ _ _ c.fan_corners-n.ensures refl refl in
-    groups_refused G A.v A.sides.now _ 4 _ (four_of G _ _ fault (and_next _ _ _ _ _ c.both-ok.ensures (sides_by F _ _ _ pe c.sides_fit-fit.ensures) refl) c.if-ok.false) (λ e. omega arith) c.clear_usize.ensures
+    groups_refused G A.v A.sides.now _ _ _ (four_of G _ _ fault (and_next _ _ _ _ _ c.both-ok.ensures (sides_by F _ _ _ pe c.sides_fit-fit.ensures) refl) c.if-ok.false) c.clear.ensures

@@ -3,7 +3,6 @@ use Rattle.mesh.specs.Given.{given}
 use native.Mathlib.Omega.{arith}
 use mathlib.Core.Path.{sym}
 use lib.Seq.{length-take-le}
-use borrow.Author.Rules.{rules}
 use Rattle.mesh_tables.proofs.Checked.{accepted, sides_ok_lem}
 use Rattle.mesh_tables.proofs.FanRead.{found_fan}
 use Rattle.readings.proofs.Grouped.{found_asked, opens_answered, opens_refused, opens_found, four_of}

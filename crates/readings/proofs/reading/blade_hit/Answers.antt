@@ -1,7 +1,6 @@
 -- `readings::reading::blade_hit` meets its contract: four points tested, then the blade test. Assumes nothing.
 use Rattle.readings.proofs.Refusing.{blade_refuses, blade_answers}
 use Rattle.judge.proofs.Joined.{and_next}
-use borrow.Author.Rules.{rules}
 use Rattle.readings.proofs.reading.blade_hit.Goals as goal
 
 pub returns-then-z : goal.returns-then-z

@@ -1,5 +1,4 @@
 -- `readings::reading::count_pieces` meets its contract: the corners, and their pieces. Assumes nothing.
-use borrow.Author.Rules.{rules}
 use native.Mathlib.Omega.{arith}
 use mathlib.Core.Path.{sym}
 use lib.ListN.{length-replicate}

@@ -1,7 +1,6 @@
 -- `readings::reading::listed_measure` meets its contract: the table, and the measures within the list. Assumes nothing.
 use Rattle.mesh_tables.proofs.Accepted.{few_particles, mark_room, listed_found}
 use native.Mathlib.Omega.{arith}
-use borrow.Author.Rules.{rules}
 use Rattle.readings.proofs.reading.listed_measure.Goals as goal
 
 pub measure_within-requires : goal.measure_within-requires

@@ -44,12 +44,6 @@ push_edge-requires c = let A = c.args in
       row = subst (EndsBelow 1024) (sym c.copied-copy.ensures) (copy_below A.count (edge_of A.row) P.3 P.2.most P.2.heads c.copy_number-w.ensures.among);
     }
 
-pub overflow_add-rows : goal.overflow_add-rows
-overflow_add-rows c = omega (arith, c.requires.0.columns.ends, c.loop-g.invariant.0.most, c.if-rows-room.false)
-
-pub overflow_add-g : goal.overflow_add-g
-overflow_add-g c = omega (arith, c.loop-g-test.true, c.requires.0.small)
-
 pub next_group-g-requires-in-loop-g : goal.next_group-g-requires-in-loop-g
 next_group-g-requires-in-loop-g c = c.requires.0.ring
 

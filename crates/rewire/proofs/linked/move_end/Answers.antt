@@ -14,9 +14,6 @@ corner_at-c-requires c = end_row c.requires
 pub move_corner-requires : goal.move_corner-requires
 move_corner-requires c = end_room c.requires c.if-w-v.false c.corner_at-c.ensures
 
-pub move_ends-requires : goal.move_ends-requires
-move_ends-requires c = omega (arith, c.requires.here, c.requires.linked.rows)
-
 pub shape_of-ends : goal.shape_of-ends
 shape_of-ends c = c.move_ends.auto.ends
 

@@ -16,50 +16,38 @@ cells_at-named-requires c = list_room c.requires.0 c.requires.1 c.requires.2
 pub loop-q-init : goal.loop-q-init
 loop-q-init c = (walk_start c.requires.0, c.requires.1.linked, refl, omega arith)
 
-pub offset_bounds-list-q : goal.offset_bounds-list-q
-offset_bounds-list-q c = omega (arith, c.loop-q-test.true, c.cells_at-named.ensures.few, c.requires.1.linked.few)
-
-pub bounds-list-q : goal.bounds-list-q
-bounds-list-q c = omega (arith, c.loop-q-test.true, c.cells_at-named.ensures.few, c.cells_at-named.auto.list, c.requires.2)
-
-pub settle_edge-grown-requires : goal.settle_edge-grown-requires
-settle_edge-grown-requires c = let T = c.requires.1 in (
+pub settle_edge-requires : goal.settle_edge-requires
+settle_edge-requires c = let T = c.requires.1 in (
   walk_room c.requires.0 c.cells_at-named.ensures (omega (arith, c.cells_at-named.auto.list, c.requires.2)) c.loop-q.invariant.0 c.loop-q-test.true,
   record { linked = c.loop-q.invariant.1; few = c.requires.1.few; most = c.requires.1.most; heads = c.requires.1.heads; behind = c.requires.1.behind },
 )
 
-pub shape_of-ends-in_default : goal.shape_of-ends-in_default
-shape_of-ends-in_default c = c.settle_edge-grown.auto.ends ∙ c.loop-q.invariant.0.ends_long
+pub shape_of-ends-in_err-rows : goal.shape_of-ends-in_err-rows
+shape_of-ends-in_err-rows c = c.settle_edge.auto.ends ∙ c.loop-q.invariant.0.ends_long
 
-pub shape_of-lengths-in_default : goal.shape_of-lengths-in_default
-shape_of-lengths-in_default c = c.settle_edge-grown.auto.lengths ∙ c.loop-q.invariant.0.lengths_long
+pub shape_of-lengths-in_err-rows : goal.shape_of-lengths-in_err-rows
+shape_of-lengths-in_err-rows c = c.settle_edge.auto.lengths ∙ c.loop-q.invariant.0.lengths_long
 
-pub shape_of-table-in_default : goal.shape_of-table-in_default
-shape_of-table-in_default c = c.settle_edge-grown.auto.table ∙ c.loop-q.invariant.2
+pub shape_of-table-in_err-rows : goal.shape_of-table-in_err-rows
+shape_of-table-in_err-rows c = c.settle_edge.auto.table ∙ c.loop-q.invariant.2
 
-pub shape_of-list-in_default : goal.shape_of-list-in_default
-shape_of-list-in_default c = c.cells_at-named.auto.list
+pub shape_of-list-in_err-rows : goal.shape_of-list-in_err-rows
+shape_of-list-in_err-rows c = c.cells_at-named.auto.list
 
-pub returns-in_default : goal.returns-in_default
-returns-in_default c = let E = c.requires.0 in
+pub returns-in_err-rows : goal.returns-in_err-rows
+returns-in_err-rows c = let E = c.requires.0 in
     let C = c.cells_at-named.ensures in
     let P = c.loop-q.invariant.0 in
-    let h = c.loop-q-test.true in (
-      passing_lacks _ _ _ _ _ _ _ _ _ _ _ _ _ _ _ _ _ _ (walk_here E C (omega (arith, c.cells_at-named.auto.list, c.requires.2)) P h) (walk_inside E C (omega (arith, c.cells_at-named.auto.list, c.requires.2)) P h) c.settle_edge-grown.result _ _ c.settle_edge-grown.ensures.0 c.in_default.is,
+    let h = c.loop-q-test.true in rw c.from_residual.ensures (
+      passing_lacks _ _ _ _ _ _ _ _ _ _ _ _ _ _ _ _ _ _ (walk_here E C (omega (arith, c.cells_at-named.auto.list, c.requires.2)) P h) (walk_inside E C (omega (arith, c.cells_at-named.auto.list, c.requires.2)) P h) c.settle_edge.result _ _ c.settle_edge.ensures.0 c.in_err-rows.was,
       tt,
     )
 
-pub overflow_add-q : goal.overflow_add-q
-overflow_add-q c = omega (arith, c.loop-q-test.true, c.cells_at-named.ensures.few, c.requires.1.linked.few)
-
-pub loop-q-smaller : goal.loop-q-smaller
-loop-q-smaller c = omega (arith, c.loop-q-test.true)
-
 pub loop-q-preserved : goal.loop-q-preserved
 loop-q-preserved c = (
-  walk_on c.requires.0 c.cells_at-named.ensures (omega (arith, c.cells_at-named.auto.list, c.requires.2)) c.loop-q.invariant.0 c.loop-q-test.true c.settle_edge-grown.ensures.0 _ c.in-Rows.is c.settle_edge-grown.auto.ends c.settle_edge-grown.auto.lengths,
-  linked_rows c.in-Rows.is c.settle_edge-grown.ensures.1,
-  c.settle_edge-grown.auto.table ∙ c.loop-q.invariant.2,
+  walk_on c.requires.0 c.cells_at-named.ensures (omega (arith, c.cells_at-named.auto.list, c.requires.2)) c.loop-q.invariant.0 c.loop-q-test.true c.settle_edge.ensures.0 _ c.in_ok-rows.was c.settle_edge.auto.ends c.settle_edge.auto.lengths,
+  linked_rows c.in_ok-rows.was c.settle_edge.ensures.1,
+  c.settle_edge.auto.table ∙ c.loop-q.invariant.2,
   omega (arith, c.loop-q-test.true),
 )
 

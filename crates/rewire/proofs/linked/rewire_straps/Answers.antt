@@ -11,29 +11,11 @@ use Rattle.rewire.proofs.linked.rewire_straps.Goals as goal
 pub loop-i-init : goal.loop-i-init
 loop-i-init c = (moving_start _ _ _ _ _ _, c.requires.linked, refl)
 
-pub offset_bounds-numbers-i : goal.offset_bounds-numbers-i
-offset_bounds-numbers-i c = omega (arith, c.loop-i-test.true, c.requires.parts.numbers_long)
-
-pub bounds-numbers-i : goal.bounds-numbers-i
-bounds-numbers-i c = omega (arith, c.loop-i-test.true, c.requires.parts.numbers_long)
-
-pub offset_bounds-groups-i : goal.offset_bounds-groups-i
-offset_bounds-groups-i c = omega (arith, c.loop-i-test.true, c.requires.parts.groups_long)
-
-pub bounds-groups-i : goal.bounds-groups-i
-bounds-groups-i c = omega (arith, c.loop-i-test.true, c.requires.parts.groups_long)
-
 pub copy_for-w-requires : goal.copy_for-w-requires
 copy_for-w-requires c = (c.requires.parts.some, c.requires.parts.small _ c.loop-i-test.true)
 
 pub move_end-requires : goal.move_end-requires
 move_end-requires c = strap_room c.requires _ _ c.loop-i.invariant.0 c.loop-i-test.true c.loop-i.invariant.1 c.copy_for-w.ensures
-
-pub overflow_add-i : goal.overflow_add-i
-overflow_add-i c = omega (arith, c.loop-i-test.true, c.requires.parts.numbers_long)
-
-pub loop-i-smaller : goal.loop-i-smaller
-loop-i-smaller c = omega (arith, c.loop-i-test.true)
 
 pub loop-i-preserved : goal.loop-i-preserved
 loop-i-preserved c = (strap_on c.requires _ _ c.loop-i.invariant.0 c.loop-i-test.true _ c.copy_for-w.ensures c.move_end.ensures.0 c.move_end.auto.ends, c.move_end.ensures.1, c.move_end.auto.table ∙ c.loop-i.invariant.2)

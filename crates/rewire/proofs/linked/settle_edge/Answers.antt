@@ -37,9 +37,6 @@ move_end-requires c = let A = c.args in
     (test_at (kind_is A.kind) A.v (edge_of c.edge_at-row.result) (row_at A.ends.now A.lengths.now A.i) c.is_other.result true c.edge_at-row.ensures c.is_other.ensures (not-false _ (ap not c.if-not-is_other.false)))
     c.copy_number-w.ensures
 
-pub overflow_add-first : goal.overflow_add-first
-overflow_add-first c = omega (arith, c.if-first-count.true, c.requires.0.copy.small)
-
 pub append_copies-requires : goal.append_copies-requires
 append_copies-requires c = let A = c.args in
     let P = c.requires.0 in

@@ -1,5 +1,4 @@
 -- `sheet_c::writing::signed_into` meets its contract: a column fills with whole numbers. Assumes nothing.
-use native.Mathlib.Omega.{arith}
 use mathlib.Core.Path.{◌∙◌, ap}
 use mir.Syntax.{w64}
 use mir.Val.{to_z, of_z}
@@ -10,27 +9,6 @@ use Rattle.sheet_c.proofs.writing.signed_into.Goals as goal
 
 pub loop-i-init : goal.loop-i-init
 loop-i-init c = fill_start _ _ _
-
-pub overflow_add-at : goal.overflow_add-at
-overflow_add-at c = omega arith
-
-pub word_at-requires : goal.word_at-requires
-word_at-requires c = omega arith
-
-pub signed-requires : goal.signed-requires
-signed-requires c = omega arith
-
-pub offset_bounds-out-i : goal.offset_bounds-out-i
-offset_bounds-out-i c = omega arith
-
-pub bounds-out-i : goal.bounds-out-i
-bounds-out-i c = omega arith
-
-pub overflow_add-i : goal.overflow_add-i
-overflow_add-i c = omega arith
-
-pub loop-i-smaller : goal.loop-i-smaller
-loop-i-smaller c = omega arith
 
 pub loop-i-preserved : goal.loop-i-preserved
 loop-i-preserved c = fill_more _ _ _ _ _ (to_z w64 (of_z w64 c.signed.result)) c.loop-i.invariant c.loop-i-test.true c.requires.1 (stored_same c.signed.result _ c.signed.ensures c.word_at.ensures.1 ∙ (c.signed.ensures ∙ ap signed_of c.word_at.ensures.0))

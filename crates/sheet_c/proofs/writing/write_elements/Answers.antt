@@ -5,42 +5,11 @@ use lib.Seq.{length-take-le}
 use Rattle.sheet_c.proofs.Fielding.{elements_written}
 use Rattle.sheet_c.proofs.writing.write_elements.Goals as goal
 
--- `sheet_c::writing::write_elements` meets its contract: six columns are read, and the sheet is written. Assumes nothing.
-pub word_at-t-requires : goal.word_at-t-requires
-word_at-t-requires c = omega (arith, c.requires.long)
-
-pub word_at-e-requires : goal.word_at-e-requires
-word_at-e-requires c = omega (arith, c.requires.long)
-
-pub word_at-requires : goal.word_at-requires
-word_at-requires c = omega (arith, c.requires.long)
-
-pub overflow_mul-at_t : goal.overflow_mul-at_t
-overflow_mul-at_t c = omega (arith, c.word_at-t.ensures.1, c.word_at-e.ensures.1, c.word_at.ensures.1)
-
-pub overflow_add-at_t : goal.overflow_add-at_t
-overflow_add-at_t c = omega (arith, c.word_at-t.ensures.1, c.word_at-e.ensures.1, c.word_at.ensures.1)
-
-pub overflow_mul-at_e : goal.overflow_mul-at_e
-overflow_mul-at_e c = omega (arith, c.word_at-t.ensures.1, c.word_at-e.ensures.1, c.word_at.ensures.1)
-
-pub overflow_add-at_e : goal.overflow_add-at_e
-overflow_add-at_e c = omega (arith, c.word_at-t.ensures.1, c.word_at-e.ensures.1, c.word_at.ensures.1)
-
 pub words_into-requires : goal.words_into-requires
 words_into-requires c = (omega (arith, c.word_at-t.ensures.0, c.word_at-e.ensures.0, c.word_at.ensures.0, c.requires.long, c.requires.particles, c.requires.triangles, c.requires.edges), omega (arith, c.word_at-t.ensures.0, c.word_at-e.ensures.0, c.word_at.ensures.0, c.requires.long, c.requires.particles, c.requires.triangles, c.requires.edges))
 
-pub overflow_add-at_t-2 : goal.overflow_add-at_t-2
-overflow_add-at_t-2 c = omega (arith, c.word_at-t.ensures.1, c.word_at-e.ensures.1, c.word_at.ensures.1)
-
 pub words_into-requires-2 : goal.words_into-requires-2
 words_into-requires-2 c = (omega (arith, c.word_at-t.ensures.0, c.word_at-e.ensures.0, c.word_at.ensures.0, c.requires.long, c.requires.particles, c.requires.triangles, c.requires.edges), omega (arith, c.word_at-t.ensures.0, c.word_at-e.ensures.0, c.word_at.ensures.0, c.requires.long, c.requires.particles, c.requires.triangles, c.requires.edges))
-
-pub overflow_mul-t : goal.overflow_mul-t
-overflow_mul-t c = omega (arith, c.word_at-t.ensures.1, c.word_at-e.ensures.1, c.word_at.ensures.1)
-
-pub overflow_add-at_t-3 : goal.overflow_add-at_t-3
-overflow_add-at_t-3 c = omega (arith, c.word_at-t.ensures.1, c.word_at-e.ensures.1, c.word_at.ensures.1)
 
 pub words_into-requires-3 : goal.words_into-requires-3
 words_into-requires-3 c = (omega (arith, c.word_at-t.ensures.0, c.word_at-e.ensures.0, c.word_at.ensures.0, c.requires.long, c.requires.particles, c.requires.triangles, c.requires.edges), omega (arith, c.word_at-t.ensures.0, c.word_at-e.ensures.0, c.word_at.ensures.0, c.requires.long, c.requires.particles, c.requires.triangles, c.requires.edges))
@@ -48,53 +17,26 @@ words_into-requires-3 c = (omega (arith, c.word_at-t.ensures.0, c.word_at-e.ensu
 pub words_into-requires-4 : goal.words_into-requires-4
 words_into-requires-4 c = (omega (arith, c.word_at-t.ensures.0, c.word_at-e.ensures.0, c.word_at.ensures.0, c.requires.long, c.requires.particles, c.requires.triangles, c.requires.edges), omega (arith, c.word_at-t.ensures.0, c.word_at-e.ensures.0, c.word_at.ensures.0, c.requires.long, c.requires.particles, c.requires.triangles, c.requires.edges))
 
-pub overflow_add-at_e-2 : goal.overflow_add-at_e-2
-overflow_add-at_e-2 c = omega (arith, c.word_at-t.ensures.1, c.word_at-e.ensures.1, c.word_at.ensures.1)
-
 pub words_into-requires-5 : goal.words_into-requires-5
 words_into-requires-5 c = (omega (arith, c.word_at-t.ensures.0, c.word_at-e.ensures.0, c.word_at.ensures.0, c.requires.long, c.requires.particles, c.requires.triangles, c.requires.edges), omega (arith, c.word_at-t.ensures.0, c.word_at-e.ensures.0, c.word_at.ensures.0, c.requires.long, c.requires.particles, c.requires.triangles, c.requires.edges))
-
-pub overflow_mul-e : goal.overflow_mul-e
-overflow_mul-e c = omega (arith, c.word_at-t.ensures.1, c.word_at-e.ensures.1, c.word_at.ensures.1)
-
-pub overflow_add-at_e-3 : goal.overflow_add-at_e-3
-overflow_add-at_e-3 c = omega (arith, c.word_at-t.ensures.1, c.word_at-e.ensures.1, c.word_at.ensures.1)
 
 pub words_into-requires-6 : goal.words_into-requires-6
 words_into-requires-6 c = (omega (arith, c.word_at-t.ensures.0, c.word_at-e.ensures.0, c.word_at.ensures.0, c.requires.long, c.requires.particles, c.requires.triangles, c.requires.edges), omega (arith, c.word_at-t.ensures.0, c.word_at-e.ensures.0, c.word_at.ensures.0, c.requires.long, c.requires.particles, c.requires.triangles, c.requires.edges))
 
-pub slice_bounds-t0-end : goal.slice_bounds-t0-end
-slice_bounds-t0-end c = omega (arith, c.word_at-t.ensures.0, c.word_at-e.ensures.0, c.word_at.ensures.0, c.requires.long, c.requires.particles, c.requires.triangles, c.requires.edges)
-
 pub slice_bounds-write-end : goal.slice_bounds-write-end
 slice_bounds-write-end c = sym (length-take-le _ _ ((omega (arith, c.word_at-t.ensures.0, c.word_at-e.ensures.0, c.word_at.ensures.0, c.requires.long, c.requires.particles, c.requires.triangles, c.requires.edges))))
-
-pub slice_bounds-t1-end : goal.slice_bounds-t1-end
-slice_bounds-t1-end c = omega (arith, c.word_at-t.ensures.0, c.word_at-e.ensures.0, c.word_at.ensures.0, c.requires.long, c.requires.particles, c.requires.triangles, c.requires.edges)
 
 pub slice_bounds-write-end-2 : goal.slice_bounds-write-end-2
 slice_bounds-write-end-2 c = sym (length-take-le _ _ ((omega (arith, c.word_at-t.ensures.0, c.word_at-e.ensures.0, c.word_at.ensures.0, c.requires.long, c.requires.particles, c.requires.triangles, c.requires.edges))))
 
-pub slice_bounds-t2-end : goal.slice_bounds-t2-end
-slice_bounds-t2-end c = omega (arith, c.word_at-t.ensures.0, c.word_at-e.ensures.0, c.word_at.ensures.0, c.requires.long, c.requires.particles, c.requires.triangles, c.requires.edges)
-
 pub slice_bounds-write-end-3 : goal.slice_bounds-write-end-3
 slice_bounds-write-end-3 c = sym (length-take-le _ _ ((omega (arith, c.word_at-t.ensures.0, c.word_at-e.ensures.0, c.word_at.ensures.0, c.requires.long, c.requires.particles, c.requires.triangles, c.requires.edges))))
-
-pub slice_bounds-e0-end : goal.slice_bounds-e0-end
-slice_bounds-e0-end c = omega (arith, c.word_at-t.ensures.0, c.word_at-e.ensures.0, c.word_at.ensures.0, c.requires.long, c.requires.particles, c.requires.triangles, c.requires.edges)
 
 pub slice_bounds-write-end-4 : goal.slice_bounds-write-end-4
 slice_bounds-write-end-4 c = sym (length-take-le _ _ ((omega (arith, c.word_at-t.ensures.0, c.word_at-e.ensures.0, c.word_at.ensures.0, c.requires.long, c.requires.particles, c.requires.triangles, c.requires.edges))))
 
-pub slice_bounds-e1-end : goal.slice_bounds-e1-end
-slice_bounds-e1-end c = omega (arith, c.word_at-t.ensures.0, c.word_at-e.ensures.0, c.word_at.ensures.0, c.requires.long, c.requires.particles, c.requires.triangles, c.requires.edges)
-
 pub slice_bounds-write-end-5 : goal.slice_bounds-write-end-5
 slice_bounds-write-end-5 c = sym (length-take-le _ _ ((omega (arith, c.word_at-t.ensures.0, c.word_at-e.ensures.0, c.word_at.ensures.0, c.requires.long, c.requires.particles, c.requires.triangles, c.requires.edges))))
-
-pub slice_bounds-structural-end : goal.slice_bounds-structural-end
-slice_bounds-structural-end c = omega (arith, c.word_at-t.ensures.0, c.word_at-e.ensures.0, c.word_at.ensures.0, c.requires.long, c.requires.particles, c.requires.triangles, c.requires.edges)
 
 pub slice_bounds-write-end-6 : goal.slice_bounds-write-end-6
 slice_bounds-write-end-6 c = sym (length-take-le _ _ ((omega (arith, c.word_at-t.ensures.0, c.word_at-e.ensures.0, c.word_at.ensures.0, c.requires.long, c.requires.particles, c.requires.triangles, c.requires.edges))))

@@ -12,15 +12,6 @@ use Rattle.split.proofs.fans.fan_tables.Goals as goal
 pub fan_linked-requires : goal.fan_linked-requires
 fan_linked-requires c = fan_walk c.requires.0 c.requires.1.triangles c.requires.2 (ap kind_is c.in-Triangles.is)
 
-pub slice_bounds-straps_linked-count : goal.slice_bounds-straps_linked-count
-slice_bounds-straps_linked-count c = omega (arith, c.requires.1.long)
-
-pub slice_bounds-straps_linked-start : goal.slice_bounds-straps_linked-start
-slice_bounds-straps_linked-start c = omega (arith, c.requires.1.long)
-
-pub slice_bounds-straps_linked-end : goal.slice_bounds-straps_linked-end
-slice_bounds-straps_linked-end c = omega (arith, c.requires.1.long)
-
 pub straps_linked-requires : goal.straps_linked-requires
 straps_linked-requires c = (edges_read c.requires.1, c.requires.0.lengths, c.requires.2)
 

@@ -30,4 +30,4 @@ pub shape_of-links : goal.shape_of-links
 shape_of-links c = same_len_mid 4096 5120 c.rewire_elements.new.links c.other_edges-grown.new.table c.other_edges-grown.auto.table ∙ c.rewire_elements.auto.links
 
 pub returns : goal.returns
-returns c = let P = c.requires in let R = c.rewire_elements in let G = c.other_edges-grown in (grow_done _ _ _ _ _ P.0 P.1 c.if-room-before.false R.ensures.0 c.corners_per-per.ensures G.ensures.0 _ c.in-Rows.is refl c.share_out.ensures, grown_back c.args.links.now G.new.table R.ensures.1 G.auto.table c.in-Rows.is G.ensures.1)
+returns c = let P = c.requires in let R = c.rewire_elements in let G = c.other_edges-grown in (grow_done _ _ _ _ _ P.0 P.1 c.if-room-before.false R.ensures.0 c.corners_per-per.ensures G.ensures.0 _ c.in-Some.is refl c.share_out.ensures, grown_back c.args.links.now G.new.table R.ensures.1 G.auto.table c.in-Some.is G.ensures.1)

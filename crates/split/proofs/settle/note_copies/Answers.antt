@@ -7,27 +7,6 @@ use Rattle.split.proofs.settle.note_copies.Goals as goal
 pub loop-i-init : goal.loop-i-init
 loop-i-init c = copying_start _ _ _ _ _
 
-pub overflow_add-at : goal.overflow_add-at
-overflow_add-at c = omega (arith, c.loop-i-test.true, c.requires.0, c.requires.1, c.ranges)
-
-pub overflow_add-before : goal.overflow_add-before
-overflow_add-before c = omega (arith, c.loop-i-test.true, c.requires.0)
-
-pub overflow_cast-before : goal.overflow_cast-before
-overflow_cast-before c = omega (arith, c.loop-i-test.true, c.requires.0)
-
-pub overflow_cast-v : goal.overflow_cast-v
-overflow_cast-v c = omega (arith, c.requires.0, c.requires.2)
-
-pub note-requires : goal.note-requires
-note-requires c = omega (arith, c.loop-i-test.true, c.requires.1, c.loop-i.invariant.long)
-
-pub overflow_add-i : goal.overflow_add-i
-overflow_add-i c = omega (arith, c.loop-i-test.true, c.requires.0)
-
-pub loop-i-smaller : goal.loop-i-smaller
-loop-i-smaller c = omega (arith, c.loop-i-test.true)
-
 pub loop-i-preserved : goal.loop-i-preserved
 loop-i-preserved c = copying_step _ _ _ _ _ c.loop-i.invariant _ c.loop-i-test.true c.note.auto.log c.note.ensures
 

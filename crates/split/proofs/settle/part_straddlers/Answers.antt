@@ -10,21 +10,8 @@ use mathlib.Core.Path.{ap}
 use mathlib.Core.Bool.{not}
 use Rattle.split.proofs.settle.part_straddlers.Goals as goal
 
--- `split::settle::part_straddlers` meets its contract: what each part asks and tells is in proofs/PartLaws.antt. Assumes nothing.
-pub slice_bounds-list_straddlers-count : goal.slice_bounds-list_straddlers-count
-slice_bounds-list_straddlers-count c = omega (arith, c.requires.2.long)
-
-pub slice_bounds-list_straddlers-start : goal.slice_bounds-list_straddlers-start
-slice_bounds-list_straddlers-start c = omega (arith, c.requires.2.long)
-
 pub list_straddlers-s-requires : goal.list_straddlers-s-requires
 list_straddlers-s-requires c = let P = c.requires in (P.0.straddle, omega (arith, P.0.few_edges, P.1), P.0.ends_in, P.2.triangles, edges_read P.2)
-
-pub overflow_sub-m : goal.overflow_sub-m
-overflow_sub-m c = omega (arith, c.requires.0.some)
-
-pub overflow_sub-room : goal.overflow_sub-room
-overflow_sub-room c = omega (arith, c.requires.0.log_in)
 
 pub log_fits-requires : goal.log_fits-requires
 log_fits-requires c = let P = c.requires.0 in omega (arith, c.requires.0.some, c.requires.0.small, c.requires.0.one_extra)
@@ -37,12 +24,6 @@ returns-then-not-log_fits c = let A = c.args in let P = c.requires in let D = c.
 
 pub note_split-entries-requires : goal.note_split-entries-requires
 note_split-entries-requires c = let A = c.args in let P = c.requires in let D = c.list_straddlers-s in split_asked (kind_is A.kind) A.room A.k A.v A.before A.n A.count A.extra A.rows A.verts.now A.groups.now A.corners.now A.ends.now A.log.now P.0 _ _ (omega (arith, D.auto.list, P.1)) D.ensures (sym c.log_fits.ensures ∙ not-false _ (ap not c.if-not-log_fits.false))
-
-pub bounds-list-2048 : goal.bounds-list-2048
-bounds-list-2048 c = omega (arith, c.list_straddlers-s.auto.list, c.requires.1)
-
-pub overflow_sub-result : goal.overflow_sub-result
-overflow_sub-result c = omega (arith, c.list_straddlers-s.ensures.few)
 
 pub shape_of-log : goal.shape_of-log
 shape_of-log c = c.note_split-entries.auto.log

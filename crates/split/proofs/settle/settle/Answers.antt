@@ -11,13 +11,6 @@ use Rattle.elements.specs.Table.{kind_is}
 use borrow.Author.Rules.{rules}
 use Rattle.split.proofs.settle.settle.Goals as goal
 
--- `split::settle::settle` meets its contract: what each part asks and tells is in proofs/SettleLaws.antt. Assumes nothing.
-pub slice_bounds-open_boundary-count : goal.slice_bounds-open_boundary-count
-slice_bounds-open_boundary-count c = omega (arith, c.requires.2.long)
-
-pub slice_bounds-open_boundary-start : goal.slice_bounds-open_boundary-start
-slice_bounds-open_boundary-start c = omega (arith, c.requires.2.long)
-
 pub open_boundary-grown-requires : goal.open_boundary-grown-requires
 open_boundary-grown-requires c = let A = c.args in let P = c.requires in (boundary_asked (kind_is A.kind) A.room A.k A.v A.before A.n A.count A.extra A.numbers.now A.verts.now A.groups.now A.points.now A.corners.now A.volumes.now A.ends.now A.lengths.now A.outline.now A.log.now P.0, facets_lent P.2 P.0.room.few_boundary P.3, P.1)
 
@@ -34,7 +27,7 @@ pub returns-in_default : goal.returns-in_default
 returns-in_default c = let A = c.args in let P = c.requires in (refused_boundary (kind_is A.kind) A.room A.k A.v A.before A.n A.count A.extra A.numbers.now A.verts.now A.groups.now A.points.now A.corners.now A.volumes.now A.ends.now A.lengths.now A.outline.now A.log.now P.0 _ _ c.open_boundary-grown.ensures.0 c.in_default.is _, tt, tt)
 
 pub part_straddlers-requires : goal.part_straddlers-requires
-part_straddlers-requires c = let A = c.args in let P = c.requires in let B = c.open_boundary-grown in (part_asked (kind_is A.kind) A.room A.k A.v A.before A.n A.count A.extra A.numbers.now A.verts.now A.groups.now A.points.now A.corners.now A.volumes.now A.ends.now A.lengths.now A.outline.now A.log.now P.0, omega (arith, P.1, B.auto.list), front_of (facets_back B.new.table P.2 B.auto.table c.in-Rows.is B.ensures.1))
+part_straddlers-requires c = let A = c.args in let P = c.requires in let B = c.open_boundary-grown in (part_asked (kind_is A.kind) A.room A.k A.v A.before A.n A.count A.extra A.numbers.now A.verts.now A.groups.now A.points.now A.corners.now A.volumes.now A.ends.now A.lengths.now A.outline.now A.log.now P.0, omega (arith, P.1, B.auto.list), front_of (facets_back B.new.table P.2 B.auto.table c.in-Some.is B.ensures.1))
 
 pub shape_of-outline : goal.shape_of-outline
 shape_of-outline c = c.open_boundary-grown.auto.outline
@@ -49,4 +42,4 @@ pub shape_of-links : goal.shape_of-links
 shape_of-links c = same_len_mid 9216 (length c.args.links.now - 9216) c.args.links.now c.open_boundary-grown.new.table c.open_boundary-grown.auto.table
 
 pub returns : goal.returns
-returns c = let A = c.args in let P = c.requires in let B = c.open_boundary-grown in let D = c.part_straddlers in (settled_told (kind_is A.kind) A.room A.k A.v A.before A.n A.count A.extra A.numbers.now A.verts.now A.groups.now A.points.now A.corners.now A.volumes.now A.ends.now A.lengths.now A.outline.now A.log.now P.0 _ _ _ B.ensures.0 c.in-Rows.is _ _ _ D.ensures.0, settled_listed (kind_is A.kind) A.room A.k A.v A.before A.n A.count A.extra A.numbers.now A.verts.now A.groups.now A.points.now A.corners.now A.volumes.now A.ends.now A.lengths.now A.outline.now A.log.now P.0 _ _ D.result D.ensures.1, parted_linked A.k _ _ _ D.result (facets_back B.new.table P.2 B.auto.table c.in-Rows.is B.ensures.1) D.ensures.1)
+returns c = let A = c.args in let P = c.requires in let B = c.open_boundary-grown in let D = c.part_straddlers in (settled_told (kind_is A.kind) A.room A.k A.v A.before A.n A.count A.extra A.numbers.now A.verts.now A.groups.now A.points.now A.corners.now A.volumes.now A.ends.now A.lengths.now A.outline.now A.log.now P.0 _ _ _ B.ensures.0 c.in-Some.is _ _ _ D.ensures.0, settled_listed (kind_is A.kind) A.room A.k A.v A.before A.n A.count A.extra A.numbers.now A.verts.now A.groups.now A.points.now A.corners.now A.volumes.now A.ends.now A.lengths.now A.outline.now A.log.now P.0 _ _ D.result D.ensures.1, parted_linked A.k _ _ _ D.result (facets_back B.new.table P.2 B.auto.table c.in-Some.is B.ensures.1) D.ensures.1)

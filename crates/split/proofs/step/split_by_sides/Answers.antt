@@ -13,9 +13,6 @@ split_fan-requires c = let P = c.requires in (P.0, given_as (kind_is c.args.kind
 pub split_fan-requires-in-Straps : goal.split_fan-requires-in-Straps
 split_fan-requires-in-Straps c = let P = c.requires in (P.0, given_as (kind_is c.args.kind) (ap kind_is c.in-Straps.is) P.1, P.2)
 
-pub bounds-list-2048 : goal.bounds-list-2048
-bounds-list-2048 c = omega (arith, c.requires.2)
-
 pub shape_of-points-in-Triangles : goal.shape_of-points-in-Triangles
 shape_of-points-in-Triangles c = c.split_fan.auto.points
 

@@ -9,10 +9,6 @@ use Rattle.split.proofs.TabledLaws.{sides_asked, fan_grouped, inverse_place, par
 use borrow.Author.Rules.{rules}
 use Rattle.split.proofs.step.split_tabled.Goals as goal
 
--- `split::step::split_tabled` meets its contract: the groups of the fan, and the step where v splits. Assumes nothing.
-pub bounds-list-2048 : goal.bounds-list-2048
-bounds-list-2048 c = omega (arith, c.requires.3)
-
 pub group_fan-count-requires : goal.group_fan-count-requires
 group_fan-count-requires c = sides_asked c.requires.1 _ c.requires.2
 

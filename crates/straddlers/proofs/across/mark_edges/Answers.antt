@@ -18,21 +18,6 @@ loop-i-init c = (marking_start _ _ _, counting_start _)
 pub edge_crosses-requires : goal.edge_crosses-requires
 edge_crosses-requires c = record { here = omega (arith, c.loop-i-test.true, c.requires.ends_long); used_long = c.requires.used_long; first = c.requires.ends_in.first _ c.loop-i-test.true; second = c.requires.ends_in.second _ c.loop-i-test.true }
 
-pub offset_bounds-mask-i : goal.offset_bounds-mask-i
-offset_bounds-mask-i c = omega (arith, c.loop-i-test.true, c.requires.few)
-
-pub bounds-mask-i : goal.bounds-mask-i
-bounds-mask-i c = omega (arith, c.loop-i-test.true, c.requires.mask_long, c.loop-i.invariant.0.long)
-
-pub overflow_add-count : goal.overflow_add-count
-overflow_add-count c = omega (arith, counting_few _ _ _ c.loop-i.invariant.1, c.loop-i-test.true, c.requires.few, c.mark-m.ensures, mark_small c.edge_crosses.result)
-
-pub overflow_add-i : goal.overflow_add-i
-overflow_add-i c = omega (arith, c.loop-i-test.true)
-
-pub loop-i-smaller : goal.loop-i-smaller
-loop-i-smaller c = omega (arith, c.loop-i-test.true)
-
 pub loop-i-preserved : goal.loop-i-preserved
 loop-i-preserved c = let e = c.mark-m.ensures ∙ ap (λ (z : Bool). pick z 1 0) (c.edge_crosses.ensures.is []) in (marking_step _ _ _ _ _ _ c.loop-i.invariant.0 c.loop-i-test.true c.requires.mask_long e, counting_step _ _ _ _ c.loop-i.invariant.1 e)
 
@@ -41,3 +26,6 @@ shape_of-mask c = c.loop-i.invariant.0.long
 
 pub returns : goal.returns
 returns c = edges_marked _ _ _ _ _ _ _ _ _ c.loop-i.invariant.0 c.loop-i.invariant.1 c.loop-i-test.false
+
+pub overflow_add-count : goal.overflow_add-count
+overflow_add-count c = omega (arith, counting_few _ _ _ c.loop-i.invariant.1, c.loop-i-test.true, c.requires.few, c.mark-m.ensures, mark_small c.edge_crosses.result)

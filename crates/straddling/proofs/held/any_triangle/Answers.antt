@@ -9,9 +9,6 @@ use Prim.Native.Nat.{◌/◌}
 use lib.ListN.{length}
 use Rattle.straddling.proofs.held.any_triangle.Goals as goal
 
-pub first_at-at-requires : goal.first_at-at-requires
-first_at-at-requires c = omega (arith, c.requires.here, c.requires.long)
-
 pub loop-at-init : goal.loop-at-init
 loop-at-init c = seeking_start _ _ _ _ _ _ (c.first_at-at.ensures.is _ _ _ _ _ c.requires.linked c.requires.here)
 

@@ -1,45 +1,20 @@
--- `straddling::rising::insert_at` meets its contract: the loop is `Moving` of proofs/PutLaws.antt. Assumes nothing.
+-- `straddling::rising::insert_at` meets its contract: the library moves the places from `at` on by one, and i is put at `at`. Assumes nothing.
 use native.Mathlib.Omega.{arith}
-use lib.ListN.{length-set}
-use mathlib.Core.Path.{◌∙◌}
-use Rattle.straddling.proofs.PutLaws.{Moving, moving_start, moving_more, moving_done}
+use Prim.Native.Nat.{ℕ, ◌-◌, ◌+◌}
+use mathlib.Core.Path.{◌≡◌, ◌∙◌, sym, ap}
+use lib.ListN.{get_or, length}
+use lib.Seq.{get_or-set_same, get_or-set_other}
 use Rattle.straddling.proofs.rising.insert_at.Goals as goal
 
-pub loop-q-init : goal.loop-q-init
-loop-q-init c = moving_start _ _ _ c.requires.0
-
-pub overflow_sub-list : goal.overflow_sub-list
-overflow_sub-list c = omega (arith, c.loop-q-test.true)
-
-pub offset_bounds-list-q : goal.offset_bounds-list-q
-offset_bounds-list-q c = omega (arith, c.loop-q-test.true, c.loop-q.invariant.most, c.requires.1, c.well_formed)
-
-pub bounds-list-q : goal.bounds-list-q
-bounds-list-q c = omega (arith, c.loop-q-test.true, c.loop-q.invariant.most, c.loop-q.invariant.long, c.requires.1)
-
-pub offset_bounds-list-q-in-loop-q : goal.offset_bounds-list-q-in-loop-q
-offset_bounds-list-q-in-loop-q c = omega (arith, c.loop-q-test.true, c.loop-q.invariant.most, c.requires.1, c.well_formed)
-
-pub bounds-list-q-in-loop-q : goal.bounds-list-q-in-loop-q
-bounds-list-q-in-loop-q c = omega (arith, c.loop-q.invariant.most, c.loop-q.invariant.long, c.requires.1)
-
-pub overflow_sub-q : goal.overflow_sub-q
-overflow_sub-q c = omega (arith, c.loop-q-test.true)
-
-pub loop-q-smaller : goal.loop-q-smaller
-loop-q-smaller c = omega (arith, c.loop-q-test.true)
-
-pub loop-q-preserved : goal.loop-q-preserved
-loop-q-preserved c = moving_more _ _ _ _ _ c.loop-q.invariant c.requires.1 c.loop-q-test.true
-
-pub offset_bounds-list-at : goal.offset_bounds-list-at
-offset_bounds-list-at c = omega (arith, c.requires.0, c.requires.1, c.well_formed)
-
-pub bounds-list-at : goal.bounds-list-at
-bounds-list-at c = omega (arith, c.loop-q.invariant.long, c.requires.0, c.requires.1)
-
-pub shape_of-list : goal.shape_of-list
-shape_of-list c = length-set c.loop-q.list c.args.at c.args.i ∙ c.loop-q.invariant.long
-
 pub returns : goal.returns
-returns c = moving_done _ _ _ _ _ c.loop-q.invariant c.requires.1 _ c.loop-q-test.false
+returns c =
+    let a = c.args in
+    let s = c.copy_within.new.self in
+    let m = c.copy_within.ensures.by_index in
+    record {
+      front = λ k h. get_or-set_other s a.at k a.i 0 (λ e. omega arith) ∙ m.1 k 0 (omega arith);
+      here = get_or-set_same s a.at a.i 0 (omega (arith, c.copy_within.ensures.len));
+      moved = λ k h l.
+          let e : a.at + (k + 1 - (a.at + 1)) ≡ k = omega arith in
+          get_or-set_other s a.at (k + 1) a.i 0 (λ e. omega arith) ∙ m.0 (k + 1) 0 (omega arith) (omega arith) ∙ ap (λ (j : ℕ). get_or a.list.now j 0) e;
+    }

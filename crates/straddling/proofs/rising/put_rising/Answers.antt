@@ -7,16 +7,6 @@ use borrow.Author.Rules.{rules}
 use Rattle.straddling.proofs.rising.put_rising.Goals as goal
 use Rattle.straddling.proofs.rising.put_rising.Goals.{else-at-gt0, then-at-gt0+else-list-at}
 
--- `straddling::rising::put_rising` meets its contract: the number is there, or it is new (proofs/PutLaws.antt). Assumes nothing.
-pub place_for-at-requires : goal.place_for-at-requires
-place_for-at-requires c = omega (arith, c.requires.long, rising_few c.requires.rising)
-
-pub offset_bounds-list-at : goal.offset_bounds-list-at
-offset_bounds-list-at c = omega (arith, c.if-at-gt0.true, c.place_for-at.ensures.within, c.requires.long, rising_few c.requires.rising, c.well_formed)
-
-pub bounds-list-at : goal.bounds-list-at
-bounds-list-at c = omega (arith, c.if-at-gt0.true, c.place_for-at.ensures.within, c.requires.long, rising_few c.requires.rising)
-
 pub returns-then-list-at : goal.returns-then-list-at
 returns-then-list-at c = put_there c.args.i c.args.r c.args.list.now _ c.place_for-at.ensures c.if-at-gt0.true c.if-list-at.true
 
@@ -44,3 +34,13 @@ returns c = put_new c.args.i c.args.r c.args.list.now _ c.place_for-at.ensures (
   | then-at-gt0+else-list-at w ↦ λ h. w.if-list-at.false
   | else-at-gt0 w ↦ λ h q. absurd (omega (arith, w.if-at-gt0.false))
 ]) _ c.insert_at.ensures
+
+-- `straddling::rising::put_rising` meets its contract: the number is there, or it is new (proofs/PutLaws.antt). Assumes nothing.
+pub place_for-at-requires : goal.place_for-at-requires
+place_for-at-requires c = omega (arith, c.requires.long, rising_few c.requires.rising)
+
+pub offset_bounds-list-at : goal.offset_bounds-list-at
+offset_bounds-list-at c = omega (arith, c.if-at-gt0.true, c.place_for-at.ensures.within, c.requires.long, rising_few c.requires.rising, c.well_formed)
+
+pub bounds-list-at : goal.bounds-list-at
+bounds-list-at c = omega (arith, c.if-at-gt0.true, c.place_for-at.ensures.within, c.requires.long, rising_few c.requires.rising)

@@ -9,35 +9,14 @@ use borrow.Author.Rules.{rules}
 use Rattle.tear.proofs.families.family.Goals as goal
 use Rattle.tear.proofs.families.family.Goals.{else-has_source, then-has_source}
 
-pub bounds-found-0 : goal.bounds-found-0
-bounds-found-0 c = omega (arith, c.requires.room)
-
 pub loop-i-init : goal.loop-i-init
 loop-i-init c = let A = c.args in gathering_again A.a A.l A.log.now A.found.now (omega (arith, c.requires.room))
-
-pub slice_bounds-has_source-end : goal.slice_bounds-has_source-end
-slice_bounds-has_source-end c = omega (arith, c.loop-i.invariant.few, c.loop-i.invariant.long, length-set c.args.found.now 0 c.args.a, c.requires.room, c.loop-i-test.true)
 
 pub slice_bounds-has_source-end-in-loop-i : goal.slice_bounds-has_source-end-in-loop-i
 slice_bounds-has_source-end-in-loop-i c = sym (length-take-le _ _ (omega (arith, c.loop-i.invariant.few, c.loop-i.invariant.long, length-set c.args.found.now 0 c.args.a, c.requires.room, c.loop-i-test.true)))
 
-pub has_source-requires : goal.has_source-requires
-has_source-requires c = omega (arith, c.requires.log, c.loop-i-test.true)
-
 pub overflow_cast-found : goal.overflow_cast-found
 overflow_cast-found c = omega (arith, c.shared_slice_known-then-has_source-1.given (6 * c.loop-i.i + 1))
-
-pub bounds-found-r : goal.bounds-found-r
-bounds-found-r c = omega (arith, c.loop-i.invariant.few, c.loop-i.invariant.long, length-set c.args.found.now 0 c.args.a, c.requires.room, c.loop-i-test.true)
-
-pub overflow_add-r : goal.overflow_add-r
-overflow_add-r c = omega (arith, c.loop-i.invariant.few, c.requires.room, c.loop-i-test.true)
-
-pub overflow_add-i : goal.overflow_add-i
-overflow_add-i c = omega (arith, c.requires.room, c.loop-i-test.true)
-
-pub loop-i-smaller : goal.loop-i-smaller
-loop-i-smaller c = omega (arith, c.loop-i-test.true)
 
 pub loop-i-preserved : goal.loop-i-preserved
 loop-i-preserved c = let A = c.args in

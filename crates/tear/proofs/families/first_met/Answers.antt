@@ -1,5 +1,6 @@
 -- `tear::families::first_met` meets its contract: the loop over the list is `Meeting` of proofs/FamilyLaws.antt. Assumes nothing.
 use Prim.Native.Nat.{◌-◌}
+use mathlib.Core.Path.{◌≡◌}
 use lib.ListN.{length}
 use Rattle.tear.proofs.FamilyLaws.{Meeting, meeting_start, meeting_more, meeting_found, meeting_done}
 use borrow.Author.Rules.{rules}
@@ -15,4 +16,6 @@ pub loop-j-preserved : goal.loop-j-preserved
 loop-j-preserved c = meeting_more _ _ _ _ _ _ _ _ _ c.loop-j.invariant c.loop-j-test.true _ c.meets.ensures c.if-meets.false
 
 pub returns : goal.returns
-returns c = meeting_done _ _ _ _ _ _ _ _ _ c.loop-j.invariant (search rules)
+returns c =
+    let e : c.loop-j.j ≡ length c.args.ys.now = search rules in
+    rw (← e) (meeting_done _ _ _ _ _ _ _ _ _ c.loop-j.invariant (search rules))

@@ -9,48 +9,9 @@ use Rattle.tear.proofs.loads.link_sums.Goals as goal
 pub loop-i-init : goal.loop-i-init
 loop-i-init c = linking_start _ _ _ _ c.requires.empty
 
-pub offset_bounds-ends-i : goal.offset_bounds-ends-i
-offset_bounds-ends-i c = omega (arith, c.requires.inside, c.loop-i.invariant.inside, c.loop-i-test.true)
-
-pub bounds-ends-i : goal.bounds-ends-i
-bounds-ends-i c = omega (arith, c.requires.inside, c.loop-i.invariant.inside, c.loop-i-test.true)
-
-pub overflow_add-sum : goal.overflow_add-sum
-overflow_add-sum c = omega (arith, c.requires.inside, c.loop-i.invariant.inside, c.loop-i-test.true)
-
-pub offset_bounds-ends-c : goal.offset_bounds-ends-c
-offset_bounds-ends-c c = omega (arith, c.requires.inside, c.loop-i.invariant.inside, c.loop-i-test.true)
-
-pub bounds-ends-c : goal.bounds-ends-c
-bounds-ends-c c = omega (arith, c.requires.inside, c.loop-i.invariant.inside, c.loop-i-test.true)
-
-pub overflow_add-sum-in-loop-i : goal.overflow_add-sum-in-loop-i
-overflow_add-sum-in-loop-i c = omega (arith, sum_met _ _ _ _ _ _ _ c.loop-i.invariant c.requires.below c.loop-i-test.true)
-
-pub offset_bounds-heads-sum : goal.offset_bounds-heads-sum
-offset_bounds-heads-sum c = omega (arith, sum_met _ _ _ _ _ _ _ c.loop-i.invariant c.requires.below c.loop-i-test.true)
-
-pub bounds-heads-sum : goal.bounds-heads-sum
-bounds-heads-sum c = omega (arith, sum_met _ _ _ _ _ _ _ c.loop-i.invariant c.requires.below c.loop-i-test.true, c.requires.long, c.loop-i.invariant.heads_long)
-
-pub offset_bounds-nexts-i : goal.offset_bounds-nexts-i
-offset_bounds-nexts-i c = omega (arith, c.requires.nexts, c.loop-i.invariant.inside, c.loop-i-test.true)
-
-pub bounds-nexts-i : goal.bounds-nexts-i
-bounds-nexts-i c = omega (arith, c.requires.nexts, c.loop-i.invariant.inside, c.loop-i.invariant.nexts_long, c.loop-i-test.true)
-
 pub overflow_cast-heads : goal.overflow_cast-heads
 overflow_cast-heads c = let L = c.loop-i in let P = c.requires in let A = c.args in
     omega (arith, head_met _ _ _ _ _ _ _ L.invariant P.below c.loop-i-test.true, c.slice_known-1.given (end_sum A.ends.now (L.i - 1)))
-
-pub offset_bounds-heads-sum-in-loop-i : goal.offset_bounds-heads-sum-in-loop-i
-offset_bounds-heads-sum-in-loop-i c = omega (arith, sum_met _ _ _ _ _ _ _ c.loop-i.invariant c.requires.below c.loop-i-test.true)
-
-pub bounds-heads-sum-in-loop-i : goal.bounds-heads-sum-in-loop-i
-bounds-heads-sum-in-loop-i c = omega (arith, sum_met _ _ _ _ _ _ _ c.loop-i.invariant c.requires.below c.loop-i-test.true, c.requires.long, c.loop-i.invariant.heads_long)
-
-pub loop-i-smaller : goal.loop-i-smaller
-loop-i-smaller c = omega (arith, c.loop-i-test.true)
 
 pub loop-i-preserved : goal.loop-i-preserved
 loop-i-preserved c = linking_more _ _ _ _ _ _ _ c.loop-i.invariant c.requires.below c.requires.long c.requires.nexts c.loop-i-test.true
@@ -63,3 +24,18 @@ shape_of-nexts c = c.loop-i.invariant.nexts_long
 
 pub returns : goal.returns
 returns c = linking_done _ _ _ _ _ _ _ c.loop-i.invariant (search rules)
+
+pub overflow_add-sum-in-loop-i : goal.overflow_add-sum-in-loop-i
+overflow_add-sum-in-loop-i c = omega (arith, sum_met _ _ _ _ _ _ _ c.loop-i.invariant c.requires.below c.loop-i-test.true)
+
+pub offset_bounds-heads-sum : goal.offset_bounds-heads-sum
+offset_bounds-heads-sum c = omega (arith, sum_met _ _ _ _ _ _ _ c.loop-i.invariant c.requires.below c.loop-i-test.true)
+
+pub bounds-heads-sum : goal.bounds-heads-sum
+bounds-heads-sum c = omega (arith, sum_met _ _ _ _ _ _ _ c.loop-i.invariant c.requires.below c.loop-i-test.true, c.requires.long, c.loop-i.invariant.heads_long)
+
+pub offset_bounds-heads-sum-in-loop-i : goal.offset_bounds-heads-sum-in-loop-i
+offset_bounds-heads-sum-in-loop-i c = omega (arith, sum_met _ _ _ _ _ _ _ c.loop-i.invariant c.requires.below c.loop-i-test.true)
+
+pub bounds-heads-sum-in-loop-i : goal.bounds-heads-sum-in-loop-i
+bounds-heads-sum-in-loop-i c = omega (arith, sum_met _ _ _ _ _ _ _ c.loop-i.invariant c.requires.below c.loop-i-test.true, c.requires.long, c.loop-i.invariant.heads_long)

@@ -9,6 +9,3 @@ use Rattle.tear.proofs.loads.link_sums.Given as goal
 -- `tear::loads::link_sums` meets its contract: the loop from the last edge to the first is `Linking` of proofs/LinkLaws.antt. Assumes nothing.
 abbrev pub invariant-loop-i : goal.invariant-loop-i
 invariant-loop-i l = Linking l.e l.ends l.initial.heads l.initial.nexts l.heads l.nexts l.i
-
-abbrev pub decreases-loop-i : goal.decreases-loop-i
-decreases-loop-i l = l.i

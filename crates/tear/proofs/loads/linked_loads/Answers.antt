@@ -15,18 +15,6 @@ triangle_load-requires c = let P = c.requires in let h = c.loop-i-test.true in (
   P.3.corners_in _ h,
 )
 
-pub offset_bounds-loads-i : goal.offset_bounds-loads-i
-offset_bounds-loads-i c = omega (arith, c.requires.1, c.loop-i-test.true)
-
-pub bounds-loads-i : goal.bounds-loads-i
-bounds-loads-i c = omega (arith, c.requires.1, c.loop-i-test.true, c.loop-i.invariant.long)
-
-pub overflow_add-i : goal.overflow_add-i
-overflow_add-i c = omega (arith, c.loop-i-test.true)
-
-pub loop-i-smaller : goal.loop-i-smaller
-loop-i-smaller c = omega (arith, c.loop-i-test.true)
-
 pub loop-i-preserved : goal.loop-i-preserved
 loop-i-preserved c = reading_more _ _ _ _ _ _ _ _ _ c.loop-i.invariant c.loop-i-test.true c.requires.1 _ c.triangle_load.ensures
 

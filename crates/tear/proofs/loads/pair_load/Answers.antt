@@ -9,15 +9,6 @@ use borrow.Author.Rules.{rules}
 use Rattle.tear.proofs.loads.pair_load.Goals as goal
 use Rattle.tear.proofs.loads.pair_load.Goals.{else-both_ends, then-both_ends}
 
-pub overflow_add-i : goal.overflow_add-i
-overflow_add-i c = omega (arith, c.requires.2.first, c.requires.2.second)
-
-pub offset_bounds-heads-x : goal.offset_bounds-heads-x
-offset_bounds-heads-x c = omega (arith, c.requires.2.first, c.requires.2.second)
-
-pub bounds-heads-x : goal.bounds-heads-x
-bounds-heads-x c = omega (arith, c.requires.2.first, c.requires.2.second, c.requires.1.heads_long)
-
 pub overflow_cast-i : goal.overflow_cast-i
 overflow_cast-i c = let A = c.args in omega (arith, c.shared_slice_known-5-1.given (A.x + A.y))
 
@@ -25,39 +16,6 @@ pub loop-i-init : goal.loop-i-init
 unfolding of_bits
 loop-i-init c = let P = c.requires in
     walking_on _ _ _ _ _ _ _ 0 _ _ P.2.differ (finding_start _ _ _ _ _) refl (P.1.linked.head _ (omega (arith, P.2.first, P.2.second)))
-
-pub offset_bounds-ends-i : goal.offset_bounds-ends-i
-offset_bounds-ends-i c = omega (arith, c.requires.0.ends, c.loop-i-test.true)
-
-pub bounds-ends-i : goal.bounds-ends-i
-bounds-ends-i c = omega (arith, c.requires.0.ends, c.loop-i-test.true)
-
-pub overflow_add-c : goal.overflow_add-c
-overflow_add-c c = omega (arith, c.requires.0.ends, c.loop-i-test.true)
-
-pub offset_bounds-ends-c : goal.offset_bounds-ends-c
-offset_bounds-ends-c c = omega (arith, c.requires.0.ends, c.loop-i-test.true)
-
-pub bounds-ends-c : goal.bounds-ends-c
-bounds-ends-c c = omega (arith, c.requires.0.ends, c.loop-i-test.true)
-
-pub overflow_add-m : goal.overflow_add-m
-overflow_add-m c = omega (arith, c.requires.0.lengths, c.loop-i-test.true)
-
-pub offset_bounds-lengths-m : goal.offset_bounds-lengths-m
-offset_bounds-lengths-m c = omega (arith, c.requires.0.lengths, c.loop-i-test.true)
-
-pub bounds-lengths-m : goal.bounds-lengths-m
-bounds-lengths-m c = omega (arith, c.requires.0.lengths, c.loop-i-test.true)
-
-pub offset_bounds-nexts-i : goal.offset_bounds-nexts-i
-offset_bounds-nexts-i c = omega (arith, c.requires.0.ends, c.loop-i-test.true)
-
-pub bounds-nexts-i : goal.bounds-nexts-i
-bounds-nexts-i c = omega (arith, c.requires.1.nexts_long, c.loop-i-test.true)
-
-pub overflow_cast-i-in-loop-i : goal.overflow_cast-i-in-loop-i
-overflow_cast-i-in-loop-i c = omega (arith, c.shared_slice_known-in-loop-i-3-1.given c.loop-i.i)
 
 pub loop-i-smaller : goal.loop-i-smaller
 loop-i-smaller c = omega (arith, (c.requires.1.linked.next _ (omega arith) c.loop-i-test.true).from, c.loop-i-test.true)

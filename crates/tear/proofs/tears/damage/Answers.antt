@@ -6,9 +6,6 @@ use Rattle.tear.proofs.TearLaws.{Hurting, hurting_start, hurting_more, hurting_d
 use borrow.Author.Rules.{rules}
 use Rattle.tear.proofs.tears.damage.Goals as goal
 
-pub bounds-roots-size : goal.bounds-roots-size
-bounds-roots-size c = omega (arith, c.requires.x_in)
-
 pub bounds-roots-size-2 : goal.bounds-roots-size-2
 bounds-roots-size-2 c = simp length-set (omega (arith, c.requires.y_in))
 

@@ -12,9 +12,6 @@ use Rattle.tear.proofs.tears.slacken_bridges.Goals.{else-bridges, then-bridges}
 pub loop-i-init : goal.loop-i-init
 loop-i-init c = slackening_start _ _ _ _ _ _ _
 
-pub bounds-lengths-m : goal.bounds-lengths-m
-bounds-lengths-m c = omega (arith, c.loop-i.invariant.long, c.requires.lengths, c.loop-i-test.true)
-
 pub bounds-lengths-m-then-bridges : goal.bounds-lengths-m-then-bridges
 bounds-lengths-m-then-bridges c = simp length-set (omega (arith, c.loop-i.invariant.long, c.requires.lengths, c.loop-i-test.true))
 

@@ -21,29 +21,11 @@ overflow_add-b c = let f = row_reads _ _ _ _ _ c.loop-i.invariant.from c.loop-i-
 pub offset_bounds-verts-a : goal.offset_bounds-verts-a
 offset_bounds-verts-a c = let f = row_reads _ _ _ _ _ c.loop-i.invariant.from c.loop-i-test.true c.requires.verts_long in omega arith
 
-pub slice_bounds-side_of-count : goal.slice_bounds-side_of-count
-slice_bounds-side_of-count c = omega arith
-
-pub slice_bounds-side_of-start : goal.slice_bounds-side_of-start
-slice_bounds-side_of-start c = omega arith
-
 pub slice_bounds-side_of-end : goal.slice_bounds-side_of-end
 slice_bounds-side_of-end c = row_reads _ _ _ _ _ c.loop-i.invariant.from c.loop-i-test.true c.requires.verts_long
 
 pub side_of-requires : goal.side_of-requires
 side_of-requires c = record { in_block = row_under _ c.args.n c.args.k c.args.verts.now c.requires.corners_in c.loop-i.i (c.loop-i.a + c.args.k - c.loop-i.a) c.loop-i.a c.loop-i-test.true c.loop-i.invariant.from (omega arith) }
-
-pub offset_bounds-sides-i : goal.offset_bounds-sides-i
-offset_bounds-sides-i c = omega (arith, c.requires.sides_long, c.loop-i-test.true)
-
-pub bounds-sides-i : goal.bounds-sides-i
-bounds-sides-i c = omega (arith, c.requires.sides_long, c.loop-i-test.true, c.loop-i.invariant.long)
-
-pub overflow_add-i : goal.overflow_add-i
-overflow_add-i c = omega (arith, c.requires.sides_long, c.loop-i-test.true)
-
-pub loop-i-smaller : goal.loop-i-smaller
-loop-i-smaller c = omega (arith, c.loop-i-test.true)
 
 pub loop-i-preserved : goal.loop-i-preserved
 loop-i-preserved c = siding_more _ _ _ _ _ _ _ _ _ _ c.loop-i.invariant c.loop-i-test.true c.requires.sides_long _ c.side_of.ensures
@@ -52,4 +34,4 @@ pub shape_of-sides : goal.shape_of-sides
 shape_of-sides c = c.loop-i.invariant.long
 
 pub returns : goal.returns
-returns c = siding_done _ _ _ _ _ _ _ _ _ _ _ _ _ c.loop-i.invariant (search rules) c.requires.sides_long c.rest_point-home.ensures c.rest_point.ensures c.minus-dir.ensures
+returns c = siding_done _ _ _ _ _ _ _ _ _ _ _ _ _ c.loop-i.invariant (search rules) c.requires.sides_long c.rest_point-home.ensures c.rest_point.ensures c.sub-dir.ensures

@@ -15,29 +15,8 @@ pub loop-i-init : goal.loop-i-init
 unfolding of_bits
 loop-i-init c = weighing_start _ _ _ _ _ _
 
-pub offset_bounds-sides-i : goal.offset_bounds-sides-i
-offset_bounds-sides-i c = omega (arith, c.requires.few, c.loop-i-test.true)
-
-pub bounds-sides-i : goal.bounds-sides-i
-bounds-sides-i c = omega (arith, c.requires.sides_long, c.loop-i-test.true)
-
-pub offset_bounds-numbers-i : goal.offset_bounds-numbers-i
-offset_bounds-numbers-i c = omega (arith, c.requires.few, c.loop-i-test.true)
-
-pub bounds-numbers-i : goal.bounds-numbers-i
-bounds-numbers-i c = omega (arith, c.requires.numbers_long, c.loop-i-test.true)
-
 pub load_of-s-requires : goal.load_of-s-requires
 load_of-s-requires c = c.requires.has c.loop-i.i c.loop-i-test.true
-
-pub overflow_add-far : goal.overflow_add-far
-overflow_add-far c = omega (arith, c.loop-i.invariant.few, c.requires.few, c.loop-i-test.true)
-
-pub overflow_add-i : goal.overflow_add-i
-overflow_add-i c = omega (arith, c.requires.few, c.loop-i-test.true)
-
-pub loop-i-smaller : goal.loop-i-smaller
-loop-i-smaller c = omega (arith, c.loop-i-test.true)
 
 pub loop-i-preserved : goal.loop-i-preserved
 loop-i-preserved c = elim c.if-sides-i-eq1.branch [

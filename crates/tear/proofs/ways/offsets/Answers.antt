@@ -14,7 +14,7 @@ pub rest_point-requires : goal.rest_point-requires
 rest_point-requires c = c.requires.in_block c.loop-i.i c.loop-i-test.true
 
 pub loop-i-preserved : goal.loop-i-preserved
-loop-i-preserved c = adding_more _ _ _ _ _ c.loop-i.invariant c.loop-i-test.true _ _ _ c.rest_point.ensures c.minus.ensures c.plus-s.ensures
+loop-i-preserved c = adding_more _ _ _ _ _ c.loop-i.invariant c.loop-i-test.true _ _ _ c.rest_point.ensures c.sub.ensures c.add-s.ensures
 
 pub returns : goal.returns
 returns c = adding_done _ _ _ _ _ c.loop-i.invariant (search rules)

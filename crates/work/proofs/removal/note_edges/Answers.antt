@@ -10,44 +10,14 @@ use Rattle.work.proofs.removal.note_edges.Goals.{else-mask-i-eq1, then-mask-i-eq
 pub loop-i-init : goal.loop-i-init
 loop-i-init c = noting_start _ _ _ _ _
 
-pub offset_bounds-mask-i : goal.offset_bounds-mask-i
-offset_bounds-mask-i c = omega (arith, c.loop-i-test.true, c.requires.mask_long)
-
-pub bounds-mask-i : goal.bounds-mask-i
-bounds-mask-i c = omega (arith, c.loop-i-test.true, c.requires.mask_long)
-
-pub offset_bounds-ends-i : goal.offset_bounds-ends-i
-offset_bounds-ends-i c = omega (arith, c.loop-i-test.true, c.requires.mask_long)
-
-pub bounds-ends-i : goal.bounds-ends-i
-bounds-ends-i c = omega (arith, c.loop-i-test.true, c.requires.ends_long)
-
 pub overflow_cast-ends : goal.overflow_cast-ends
 overflow_cast-ends c = omega (arith, col_0 0 (length c.args.ends.now / 4) c.args.ends.now c.loop-i.i, c.requires.ends_in.first c.loop-i.i c.loop-i-test.true)
-
-pub overflow_add-c : goal.overflow_add-c
-overflow_add-c c = omega (arith, c.loop-i-test.true, c.requires.ends_long)
-
-pub offset_bounds-ends-c : goal.offset_bounds-ends-c
-offset_bounds-ends-c c = omega (arith, c.loop-i-test.true, c.requires.ends_long)
-
-pub bounds-ends-c : goal.bounds-ends-c
-bounds-ends-c c = omega (arith, c.loop-i-test.true, c.requires.ends_long)
 
 pub overflow_cast-ends-then-mask-i-eq1 : goal.overflow_cast-ends-then-mask-i-eq1
 overflow_cast-ends-then-mask-i-eq1 c = omega (arith, col_1 0 (length c.args.ends.now / 4) c.args.ends.now c.loop-i.i, c.requires.ends_in.second c.loop-i.i c.loop-i-test.true)
 
 pub note-requires : goal.note-requires
 note-requires c = noting_room _ _ _ _ _ _ _ _ c.loop-i.invariant c.loop-i-test.true c.if-mask-i-eq1.true c.requires
-
-pub overflow_add-w : goal.overflow_add-w
-overflow_add-w c = omega (arith, noting_room _ _ _ _ _ _ _ _ c.loop-i.invariant c.loop-i-test.true c.if-mask-i-eq1.true c.requires)
-
-pub overflow_add-i : goal.overflow_add-i
-overflow_add-i c = omega (arith, c.loop-i-test.true)
-
-pub loop-i-smaller : goal.loop-i-smaller
-loop-i-smaller c = omega (arith, c.loop-i-test.true)
 
 pub loop-i-preserved : goal.loop-i-preserved
 loop-i-preserved c = elim c.if-mask-i-eq1.branch [
@@ -60,3 +30,6 @@ shape_of-log c = c.loop-i.invariant.long
 
 pub returns : goal.returns
 returns c = noting_done _ _ _ _ _ _ _ _ c.loop-i.invariant c.loop-i-test.false
+
+pub overflow_add-w : goal.overflow_add-w
+overflow_add-w c = omega (arith, noting_room _ _ _ _ _ _ _ _ c.loop-i.invariant c.loop-i-test.true c.if-mask-i-eq1.true c.requires)

@@ -1,9 +1,0 @@
--- The loop of `replay::soil`: a turn is one byte. Assumes nothing.
-use Rattle.std.specs.Prelude.{length, ◌-◌, ◌≡◌, ◌≤◌}
-use Rattle.replay.proofs.soil.Given as goal
-
-abbrev pub invariant-loop-i : goal.invariant-loop-i
-invariant-loop-i l = (l.i ≤ length l.bytes) × (length l.bytes ≡ length l.initial.bytes)
-
-abbrev pub decreases-loop-i : goal.decreases-loop-i
-decreases-loop-i l = length l.initial.bytes - l.i
