@@ -82,7 +82,7 @@ fn split_many(
     let mut verts = [0usize; MANY_CORNERS];
     let mut measures = [0.0f32; MANY];
     let mut sides = [0usize; MANY];
-    let mut groups = [0usize; MANY];
+    let mut parts = [0usize; MANY];
     let n = fan_tables(
         kind,
         v,
@@ -99,26 +99,8 @@ fn split_many(
     );
     part_fan(way, kind, v, n, &verts, points, &mut sides);
     split_tabled(
-        kind,
-        v,
-        n,
-        &numbers,
-        &verts,
-        &measures,
-        &sides,
-        &mut groups,
-        k,
-        room,
-        points,
-        roots,
-        corners,
-        volumes,
-        ends,
-        lengths,
-        outline,
-        log,
-        list,
-        links,
+        kind, v, n, &numbers, &verts, &measures, &sides, &mut parts, k, room, points, roots,
+        corners, volumes, ends, lengths, outline, log, list, links,
     )
 }
 
@@ -149,7 +131,7 @@ fn split_one(
     let mut verts = [0usize; FEW_CORNERS];
     let mut measures = [0.0f32; FEW];
     let mut sides = [0usize; FEW];
-    let mut groups = [0usize; FEW];
+    let mut parts = [0usize; FEW];
     let n = fan_tables(
         kind,
         v,
@@ -172,26 +154,8 @@ fn split_one(
     }
     part_fan(way, kind, v, n, &verts, points, &mut sides);
     split_tabled(
-        kind,
-        v,
-        n,
-        &numbers,
-        &verts,
-        &measures,
-        &sides,
-        &mut groups,
-        k,
-        room,
-        points,
-        roots,
-        corners,
-        volumes,
-        ends,
-        lengths,
-        outline,
-        log,
-        list,
-        links,
+        kind, v, n, &numbers, &verts, &measures, &sides, &mut parts, k, room, points, roots,
+        corners, volumes, ends, lengths, outline, log, list, links,
     )
 }
 
