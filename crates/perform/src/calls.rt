@@ -216,13 +216,10 @@ pub fn run(
         Came (job_call job list.now (sizes_fit_of G) (mesh_of G) (as_rooms room)) room
         (λ k. world_at k points.new roots.new corners.new volumes.new ends.new lengths.new outline.new log.new) result }
 {
-    let begun = begin(
+    begin(
         job, list, room, in_points, in_roots, in_corners, in_volumes, in_ends, in_lengths,
         in_outline, points, roots, corners, volumes, ends, lengths, outline,
-    );
-    if let Err(e) = begun {
-        return Err(e);
-    }
+    )?;
     let k = Counts {
         particles: in_points.len() / mesh::POINT_COLUMNS,
         triangles: in_corners.len() / mesh::CORNER_COLUMNS,
