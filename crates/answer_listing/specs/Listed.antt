@@ -31,11 +31,14 @@ pub record Countable (k : Counts) (c : List ℕ) (v : List Float) (e : List ℕ)
   pub edge_names : all (ends_ok k.particles) (edges_at k.edges e l) ≡ true
 
 -- what is asked for the listing of an answer: of counts, that the blocks hold so many rows, and few log entries
-abbrev pub Listable : Result Answer Refusal → List ℕ → List Float → List ℕ → List Float → ℕ → Type 0
+abbrev pub Listable : {E : Type 0} → Result Answer E → List ℕ → List Float → List ℕ → List Float → ℕ → Type 0
 Listable (Err d) c v e l g = Unit {0}
 Listable (Ok a) c v e l g = Countable a.counts c v e l × (6 * a.counts.log ≤ g) × (a.counts.log ≤ 640)
 
--- the text of an answer, from the blocks that it goes with, with the line of a replaced outline or without
+-- the text of an answer, from the blocks that it goes with, with the line of a replaced outline or without, where `told` tells a refusal's number
+abbrev pub text_of_by : {E : Type 0} → (E → ℕ) → Bool → Result Answer E → List ℕ → List Float → List ℕ → List Float → List ℕ → List ℕ
+text_of_by told replaced (Err d) c v e l g = refused_bytes (told d)
+text_of_by told replaced (Ok a) c v e l g = listing_bytes replaced (log_at a.counts.log g) a.counts.particles (pieces_in (triangles_at a.counts.triangles c v) (edges_at a.counts.edges e l))
+
 abbrev pub text_of : Bool → Result Answer Refusal → List ℕ → List Float → List ℕ → List Float → List ℕ → List ℕ
-text_of replaced (Err d) c v e l g = refused_bytes (number_of d)
-text_of replaced (Ok a) c v e l g = listing_bytes replaced (log_at a.counts.log g) a.counts.particles (pieces_in (triangles_at a.counts.triangles c v) (edges_at a.counts.edges e l))
+text_of = text_of_by number_of

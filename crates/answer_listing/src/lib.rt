@@ -4,11 +4,11 @@
 ghost use Rattle.std.specs.Prelude.{◌≡◌, length};
 ghost use Rattle.mesh.specs.At.{triangles_at, edges_at};
 ghost use Rattle.listing.specs.Answers.{Told};
-ghost use Rattle.answer_listing.specs.Listed.{pieces_in, Countable, Listable, text_of};
+ghost use Rattle.answer_listing.specs.Listed.{pieces_in, Countable, Listable, text_of_by};
 
 use call_frame::Answer;
 use mesh::Counts;
-use mesh::refusals::Refusal;
+use refusal_numbers::Tells;
 
 // How many pieces the triangles and edges at the fronts of blocks make.
 fn count_pieces(
@@ -57,9 +57,9 @@ fn count_pieces(
 }
 
 // Writes the listing of an answer that goes with the blocks, with the line of a replaced outline or without, or the line of its refusal.
-pub fn list_answer(
+pub fn list_answer<E: Tells>(
     replaced: bool,
-    a: Result<Answer, Refusal>,
+    a: Result<Answer, E>,
     corners: &[usize],
     volumes: &[f32],
     ends: &[usize],
@@ -68,11 +68,11 @@ pub fn list_answer(
     out: &mut [u8],
 ) -> Option<usize>
     requires { Listable a corners.now volumes.now ends.now lengths.now (length log.now) }
-    ensures { Told (text_of replaced a corners.now volumes.now ends.now lengths.now
+    ensures { Told (text_of_by E.told replaced a corners.now volumes.now ends.now lengths.now
         log.now) (length out.old) out.new result }
 {
     match a {
-        Err(e) => listing::write_refused(e.number(), out),
+        Err(e) => listing::write_refused(e.tell(), out),
         Ok(answer) => {
             let k = answer.counts;
             let found = count_pieces(k, corners, volumes, ends, lengths);

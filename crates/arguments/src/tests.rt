@@ -2,12 +2,12 @@
 ghost use Rattle.std.specs.Prelude.{◌≡◌, ◌&&◌, eqb, ltb, length};
 ghost use Rattle.lists.specs.Lists.{all};
 ghost use Rattle.model.specs.Calls.{strictly, point_ok, fraction_ok};
-ghost use Rattle.mesh.specs.Refused.{refusal_in};
 ghost use Rattle.arguments.specs.Beside.{with_numbers_of};
 
 use blade::Point;
 use judge::tests;
 use mesh::refusals::Refusal;
+use refusal_numbers::Tells;
 
 // Are both numbers of a point in range?
 pub fn point_fits(p: Point) -> bool
@@ -24,18 +24,16 @@ pub fn fraction_fits(f: f32) -> bool
 }
 
 // The fault of a mesh and of the numbers beside it: bad ones refuse with 2, behind 1 and before 3.
-pub fn with_numbers(fault: Result<(), Refusal>, ok: bool) -> Result<(), Refusal>
-    ensures { refusal_in result ≡ with_numbers_of (refusal_in fault) ok }
+pub fn with_numbers<F: Tells>(fault: F, ok: bool) -> F
+    ensures { F.told result ≡ with_numbers_of (F.told fault) ok }
 {
     if ok {
         return fault;
     }
-    let Err(e) = fault else {
-        return Err(Refusal::Number);
-    };
-    match e {
-        Refusal::Size => fault,
-        _ => Err(Refusal::Number),
+    if fault.tell() == 1 {
+        fault
+    } else {
+        F::refuse(Refusal::Number)
     }
 }
 

@@ -108,11 +108,11 @@ copy_holds G R I s l f t =
     }
 
 -- what is asked of the copy
-pub copy_asked : (G : Given) (R : Rooms) (I : Lent) (lack : ℕ) → BeginAsked R G I → lack ≡ too_small (as_rooms R) (copy_need (sizes G)) → lack ≡ 0
+pub copy_asked : (code : ℕ) (G : Given) (R : Rooms) (I : Lent) (lack : ℕ) → BeginAsked code R G I → code ≡ 0 → lack ≡ too_small (as_rooms R) (copy_need (sizes G)) → lack ≡ 0
     → Fits (sizes G) (lent_of G) × Holds (lent_of G) I
-copy_asked G R I lack A e n =
-    let s : SizedInput G = sizes_told _ _ _ _ _ _ _ A.sized in
-    (input_fits G s, copy_holds G R I s A.rooms (copy_fits (sizes G) R (sym e ∙ n)) A.triangles)
+copy_asked code G R I lack A z e n =
+    let s : SizedInput G = sizes_told _ _ _ _ _ _ _ (A.sized z) in
+    (input_fits G s, copy_holds G R I s A.rooms (copy_fits (sizes G) R (sym e ∙ n)) (A.triangles z))
 
 -- ---- what is told
 
@@ -185,19 +185,19 @@ passed G numbers arguments e =
 
 -- where none did, the input may be copied
 pub begin_asked : (G : Given) (R : Rooms) (I : Lent) (code : ℕ) (numbers arguments : Bool) → code ≡ refusal (sizes_fit_of G) (mesh_of G) numbers arguments
-    → (arguments ≡ true → triangles_lent (as_rooms R) (mesh_of G) ≡ true) → RoomsLent R I → code ≡ 0 → BeginAsked R G I
-begin_asked G R I code numbers arguments e t rooms z =
+    → (arguments ≡ true → triangles_lent (as_rooms R) (mesh_of G) ≡ true) → RoomsLent R I → BeginAsked code R G I
+begin_asked G R I code numbers arguments e t rooms =
     record {
-      sized = (passed G numbers arguments (sym e ∙ z)).sized;
-      triangles = let h = leb-true (length (mesh_of G).triangles) R.triangles (t (passed G numbers arguments (sym e ∙ z)).asked) in omega (arith, h, mesh_triangles G);
+      sized = λ z. (passed G numbers arguments (sym e ∙ z)).sized;
+      triangles = λ z. let h = leb-true (length (mesh_of G).triangles) R.triangles (t (passed G numbers arguments (sym e ∙ z)).asked) in omega (arith, h, mesh_triangles G);
       rooms = rooms;
     }
 
 -- the same where more is asked beside
 pub begin_asked_beside : (G : Given) (R : Rooms) (I : Lent) (code : ℕ) (numbers beside : Bool) → code ≡ refusal (sizes_fit_of G) (mesh_of G) numbers (beside && triangles_lent (as_rooms R) (mesh_of G)) → RoomsLent R I
-    → code ≡ 0 → BeginAsked R G I
-begin_asked_beside G R I code numbers beside e rooms z =
-    begin_asked G R I code numbers (beside && triangles_lent (as_rooms R) (mesh_of G)) e (λ q. (and_true beside (triangles_lent (as_rooms R) (mesh_of G)) q).1) rooms z
+    → BeginAsked code R G I
+begin_asked_beside G R I code numbers beside e rooms =
+    begin_asked G R I code numbers (beside && triangles_lent (as_rooms R) (mesh_of G)) e (λ q. (and_true beside (triangles_lent (as_rooms R) (mesh_of G)) q).1) rooms
 
 -- the number that the checks gave is the refusal
 pub begun_by : {code code' : ℕ} {R : Rooms} {N held : Mesh} {r : ℕ} → Begun code R N held r → code ≡ code' → Begun code' R N held r

@@ -16,7 +16,6 @@ use Rattle.work.specs.Ran.{Ran}
 use Rattle.mesh.specs.Refused.{answer_in}
 use Rattle.call_frame.specs.Answered.{nothing, shown, answer_of}
 use Rattle.call_frame.specs.declared.Answer.{Answer}
-use Rattle.mesh.specs.declared.refusals.Refusal.{Refusal}
 
 -- ---- what a log tells
 
@@ -48,10 +47,10 @@ pub record RoomsLent (R : Rooms) (I : Lent) : Type 0 where
   pub lengths : R.edges ≤ I.lengths / length_columns
   pub outline : R.boundary ≤ I.outline / side_columns
 
--- what is asked before an input is copied, which nothing has refused: its sizes fit, and its triangles have room
-pub record BeginAsked (R : Rooms) (G : Given) (I : Lent) : Type 0 where
-  pub sized : sizes_fit_of G ≡ true
-  pub triangles : (sizes G).triangles ≤ R.triangles
+-- what is asked before an input is copied: where nothing has refused it, its sizes fit, and its triangles have room
+pub record BeginAsked (code : ℕ) (R : Rooms) (G : Given) (I : Lent) : Type 0 where
+  pub sized : code ≡ 0 → sizes_fit_of G ≡ true
+  pub triangles : code ≡ 0 → (sizes G).triangles ≤ R.triangles
   pub rooms : RoomsLent R I
 
 -- the number that is told, and the mesh that the lent blocks hold where it is 0
@@ -61,18 +60,18 @@ pub record Begun (code : ℕ) (R : Rooms) (N held : Mesh) (r : ℕ) : Type 0 whe
 
 -- ---- the end
 
--- the counts that a worker came to fit the lent blocks
-abbrev pub RanFits : Ran → Lent → Type 0
+-- the counts that a worker came to fit the lent blocks, whatever its errors are
+abbrev pub RanFits : {E : Type 0} → Result Counts E → Lent → Type 0
 RanFits (Err c) L = Unit {0}
 RanFits (Ok k) L = Fits k L
 
 -- what is shown of what a worker came to, where the blocks hold `at` of its counts
-abbrev pub shown_of : Ran → (Counts → World) → World
+abbrev pub shown_of : {E : Type 0} → Result Counts E → (Counts → World) → World
 shown_of (Err c) at = nothing
 shown_of (Ok k) at = at k
 
 -- what is answered of it
-abbrev pub said_of : Ran → (Counts → World) → Result Answer Refusal
+abbrev pub said_of : {E : Type 0} → Result Counts E → (Counts → World) → Result Answer E
 said_of (Err c) at = Err c
 said_of (Ok k) at = Ok (record { counts = k; changed = words_change (at k).log })
 
@@ -88,6 +87,6 @@ pub record Came (o : Outcome) (R : Rooms) (at : Counts → World) (ran : Ran) : 
   pub within : RanWithin ran R
 
 -- the answer, and every lent place
-pub record Finished (ran : Ran) (at : Counts → World) (L : Lent) (a : Result Answer Refusal) (p : List Float) (r c : List ℕ) (v : List Float) (e : List ℕ) (l : List Float) (b g : List ℕ) : Type 0 where
+pub record Finished {E : Type 0} (ran : Result Counts E) (at : Counts → World) (L : Lent) (a : Result Answer E) (p : List Float) (r c : List ℕ) (v : List Float) (e : List ℕ) (l : List Float) (b g : List ℕ) : Type 0 where
   pub answer : a ≡ said_of ran at
   pub blocks : Filled (shown_of ran at) L p r c v e l b g

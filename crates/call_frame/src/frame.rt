@@ -11,7 +11,7 @@ ghost use Rattle.mesh.specs.Log.{world_at};
 use crate::Answer;
 use mesh::refusals::Refusal;
 use mesh::{Counts, Rooms};
-use work::Ran;
+use refusal_numbers::Tells;
 
 // 5, 6 or 7 if the copy of an input with these counts lacks room for particles, edges or boundary.
 pub fn lacking(k: Counts, room: Rooms) -> Result<(), Refusal>
@@ -29,8 +29,9 @@ pub fn lacking(k: Counts, room: Rooms) -> Result<(), Refusal>
     Ok(())
 }
 
-// Copies an input that nothing has refused to the lent blocks, unless there is no room for it.
-pub fn begin(
+// Copies the input to the lent blocks, unless there is a refusal already, or no room for it. Returns the refusal, or the fault, which tells 0 then.
+pub fn begin<F: Tells>(
+    fault: F,
     room: Rooms,
     in_points: &[f32],
     in_roots: &[usize],
@@ -46,13 +47,16 @@ pub fn begin(
     ends: &mut [usize],
     lengths: &mut [f32],
     outline: &mut [usize],
-) -> Result<(), Refusal>
-    requires { BeginAsked room (given_in in_points in_roots in_corners in_volumes in_ends in_lengths in_outline)
+) -> F
+    requires { BeginAsked (F.told fault) room (given_in in_points in_roots in_corners in_volumes in_ends in_lengths in_outline)
         (blocks_in points roots corners volumes ends lengths outline) }
     ensures { let G = given_before in_points in_roots in_corners in_volumes in_ends in_lengths in_outline in
-        Begun 0 room (mesh_of G) (mesh_behind (sizes G) points roots corners volumes ends lengths outline)
-        (refusal_in result) }
+        Begun (F.told fault) room (mesh_of G) (mesh_behind (sizes G) points roots corners volumes ends lengths outline)
+        (F.told result) }
 {
+    if fault.tell() != 0 {
+        return fault;
+    }
     let k = Counts {
         particles: in_points.len() / mesh::POINT_COLUMNS,
         triangles: in_corners.len() / mesh::CORNER_COLUMNS,
@@ -60,17 +64,19 @@ pub fn begin(
         boundary: in_outline.len() / mesh::SIDE_COLUMNS,
         log: 0,
     };
-    lacking(k, room)?;
+    if let Err(e) = lacking(k, room) {
+        return F::refuse(e);
+    }
     mesh::whole::copy_all(
         k, in_points, in_roots, in_corners, in_volumes, in_ends, in_lengths, in_outline, points,
         roots, corners, volumes, ends, lengths, outline,
     );
-    Ok(())
+    fault
 }
 
 // The end of a call: 0 behind the rows and the log that its worker came to, or everywhere after a refusal; and the answer.
-pub fn finish(
-    ran: Ran,
+pub fn finish<E: Copy>(
+    ran: Result<Counts, E>,
     points: &mut [f32],
     roots: &mut [usize],
     corners: &mut [usize],
@@ -79,7 +85,7 @@ pub fn finish(
     lengths: &mut [f32],
     outline: &mut [usize],
     log: &mut [u32],
-) -> Result<Answer, Refusal>
+) -> Result<Answer, E>
     requires { RanFits ran (lent_in points roots corners volumes ends lengths outline log) }
     ensures { Finished ran (λ k. world_at k points.old roots.old corners.old volumes.old ends.old lengths.old outline.old log.old)
         (lent_before points roots corners volumes ends lengths outline log) result points.new roots.new corners.new

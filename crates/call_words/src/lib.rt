@@ -3,7 +3,6 @@
 
 ghost use Rattle.std.specs.Prelude.{◌≡◌, length};
 ghost use Rattle.mesh_calls.specs.declared.Job.TheVariants.{Cut};
-ghost use Rattle.mesh.specs.Refused.{refusal_in};
 ghost use Rattle.image.specs.Words.{number_of};
 ghost use Rattle.reading_replies.specs.Replies.{point_at_of};
 ghost use Rattle.call_words.specs.Rooms.{Limited, rooms_given, rooms_too, lacks_room_of};
@@ -11,6 +10,7 @@ ghost use Rattle.call_words.specs.Rooms.{Limited, rooms_given, rooms_too, lacks_
 use mesh::Rooms;
 use mesh::refusals::Refusal;
 use mesh_calls::Job;
+use refusal_numbers::Tells;
 
 // The rooms that four words and so many log bytes are; other bytes are none.
 pub fn rooms_in(rooms: &[u8], logged: usize) -> Rooms
@@ -35,20 +35,20 @@ pub fn rooms_in(rooms: &[u8], logged: usize) -> Rooms
 }
 
 // The refusal of a job, where the rooms are four words; other rooms are a bad argument, 4, which comes behind 1 to 3 and before the rest.
-pub fn with_rooms(fault: Result<(), Refusal>, sixteen: bool) -> Result<(), Refusal>
-    ensures { refusal_in result ≡ rooms_too (refusal_in fault) sixteen }
+pub fn with_rooms<F: Tells>(fault: F, sixteen: bool) -> F
+    ensures { F.told result ≡ rooms_too (F.told fault) sixteen }
 {
     if sixteen {
         return fault;
     }
-    let Err(e) = fault else {
-        return Err(Refusal::Argument);
-    };
-    match e {
-        Refusal::Size => fault,
-        Refusal::Number => fault,
-        Refusal::Name => fault,
-        _ => Err(Refusal::Argument),
+    let number = fault.tell();
+    if number == 0 {
+        return F::refuse(Refusal::Argument);
+    }
+    if number < 4 {
+        fault
+    } else {
+        F::refuse(Refusal::Argument)
     }
 }
 

@@ -13,16 +13,15 @@ use Rattle.model.specs.Reads.{refused, value}
 use Rattle.mesh.specs.declared.Counts.{Counts}
 use Rattle.mesh.specs.Log.{log_at}
 use Rattle.mesh.specs.Widths.{particle_words}
-use Rattle.work.specs.Ran.{Ran}
 use Rattle.call_frame.specs.Framed.{words_change}
 use Rattle.image.specs.Words.{written, put_word_of, put_words}
 use Rattle.image_writing.specs.Stores.{left_words, StorableWithout}
 use Rattle.image_writing.proofs.Puts.{put_written, put_one, puts_then, put_cleared}
 use Rattle.mesh_replies.specs.Both.{BothReplied}
 use Rattle.edge_drops.specs.Parted.{listed}
-use Rattle.mesh_replies.specs.Told.{listed_edges, done_words, mesh_told, log_told, Tellable, Telling}
+use Rattle.mesh_replies.specs.Told.{listed_edges, done_words, mesh_told_by, log_told, Tellable, TellingBy}
 use Rattle.mesh_replies.proofs.Shown.{listed_few, told_long}
-use Rattle.std.specs.Prelude.{Ok}
+use Rattle.std.specs.Prelude.{Result, Ok}
 
 module _ (k : Counts) (gone : List ℕ) (p : List Float) (r c : List ℕ) (v : List Float) (e : List ℕ) (l : List Float) (o : List ℕ) (lg logged : ℕ)
     (h : Tellable k gone (length p) (length r) (length c) (length v) (length e) (length l) (length o) lg logged) where
@@ -69,18 +68,18 @@ log_written logged ws s s' h e f = f ∙ ap (λ (t : List ℕ). put_words t 0 ws
 
 -- ---- by the case of what a call came to
 
-pub telling_as : (a b : Ran) (gone : List ℕ) (lp lr lc lv le ll lo lg logged : ℕ) → a ≡ b → Telling a gone lp lr lc lv le ll lo lg logged → Telling b gone lp lr lc lv le ll lo lg logged
-telling_as a b gone lp lr lc lv le ll lo lg logged e h = subst (λ (z : Ran). Telling z gone lp lr lc lv le ll lo lg logged) e h
+pub telling_as : {E : Type 0} (told : E → ℕ) (a b : Result Counts E) (gone : List ℕ) (lp lr lc lv le ll lo lg logged : ℕ) → a ≡ b → TellingBy told a gone lp lr lc lv le ll lo lg logged → TellingBy told b gone lp lr lc lv le ll lo lg logged
+telling_as {E} told a b gone lp lr lc lv le ll lo lg logged e h = subst (λ (z : Result Counts E). TellingBy told z gone lp lr lc lv le ll lo lg logged) e h
 
-pub told_as : (a b : Ran) (gone : List ℕ) (p : List Float) (r c : List ℕ) (v : List Float) (e : List ℕ) (l : List Float) (o g : List ℕ) (lent logged x : ℕ) (out log : List ℕ) → a ≡ b
-    → BothReplied (mesh_told b gone p r c v e l o g) (log_told b g) lent logged x out log → BothReplied (mesh_told a gone p r c v e l o g) (log_told a g) lent logged x out log
-told_as a b gone p r c v e l o g lent logged x out log q h = subst (λ (z : Ran). BothReplied (mesh_told z gone p r c v e l o g) (log_told z g) lent logged x out log) (sym q) h
+pub told_as : {E : Type 0} (told : E → ℕ) (a b : Result Counts E) (gone : List ℕ) (p : List Float) (r c : List ℕ) (v : List Float) (e : List ℕ) (l : List Float) (o g : List ℕ) (lent logged x : ℕ) (out log : List ℕ) → a ≡ b
+    → BothReplied (mesh_told_by told b gone p r c v e l o g) (log_told b g) lent logged x out log → BothReplied (mesh_told_by told a gone p r c v e l o g) (log_told a g) lent logged x out log
+told_as {E} told a b gone p r c v e l o g lent logged x out log q h = subst (λ (z : Result Counts E). BothReplied (mesh_told_by told z gone p r c v e l o g) (log_told z g) lent logged x out log) (sym q) h
 
 -- a refusal by its number
 pub refused_as : (n m lent logged x : ℕ) (out log : List ℕ) → n ≡ m → BothReplied (refused n) [] lent logged x out log → BothReplied (refused m) [] lent logged x out log
 refused_as n m lent logged x out log q h = subst (λ (z : ℕ). BothReplied (refused z) [] lent logged x out log) q h
 
 -- whether anything was split or inserted, as the log tells it
-pub done_as : (k : Counts) (any : Bool) (gone : List ℕ) (p : List Float) (r c : List ℕ) (v : List Float) (e : List ℕ) (l : List Float) (o g : List ℕ) (lent logged x : ℕ) (out log : List ℕ) → any ≡ words_change (log_at k.log g)
-    → BothReplied (value (done_words k any (listed_edges gone) p r c v e l o)) (take (6 * k.log) g) lent logged x out log → BothReplied (mesh_told (Ok k) gone p r c v e l o g) (log_told (Ok k) g) lent logged x out log
-done_as k any gone p r c v e l o g lent logged x out log q h = subst (λ (b : Bool). BothReplied (value (done_words k b (listed_edges gone) p r c v e l o)) (take (6 * k.log) g) lent logged x out log) q h
+pub done_as : {E : Type 0} (told : E → ℕ) (k : Counts) (any : Bool) (gone : List ℕ) (p : List Float) (r c : List ℕ) (v : List Float) (e : List ℕ) (l : List Float) (o g : List ℕ) (lent logged x : ℕ) (out log : List ℕ) → any ≡ words_change (log_at k.log g)
+    → BothReplied (value (done_words k any (listed_edges gone) p r c v e l o)) (take (6 * k.log) g) lent logged x out log → BothReplied (mesh_told_by told (Ok k) gone p r c v e l o g) (log_told {E = E} (Ok k) g) lent logged x out log
+done_as told k any gone p r c v e l o g lent logged x out log q h = subst (λ (b : Bool). BothReplied (value (done_words k b (listed_edges gone) p r c v e l o)) (take (6 * k.log) g) lent logged x out log) q h

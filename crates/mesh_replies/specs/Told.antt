@@ -1,5 +1,5 @@
 -- The reply to a call that gives a mesh, by what it came to and left in its blocks. Only the contracts between the functions need this file. Definitions only.
-use Rattle.std.specs.Prelude.{ℕ, ◌+◌, ◌*◌, ◌/◌, ◌≤◌, ◌<◌, Bool, List, [], ◌∷◌, length, take, Float, Ok, Err}
+use Rattle.std.specs.Prelude.{ℕ, ◌+◌, ◌*◌, ◌/◌, ◌≤◌, ◌<◌, Bool, List, [], ◌∷◌, length, take, Float, Result, Ok, Err}
 use Rattle.lists.specs.Lists.{pick}
 use Rattle.lists.specs.LeftOut.{Rising}
 use Rattle.model.specs.Reads.{Read, refused, value}
@@ -21,13 +21,16 @@ listed_edges gone = take (listed gone) gone
 abbrev pub done_words : Counts → Bool → List ℕ → List Float → List ℕ → List ℕ → List Float → List ℕ → List Float → List ℕ → List ℕ
 done_words k b is p r c v e l o = pick b 1 0 ∷ k.log ∷ left_words k is p r c v e l o
 
--- what is told of what a call came to, whose log is the first words of g
+-- what is told of what a call came to, whose log is the first words of g, where `told` tells a refusal's number
+abbrev pub mesh_told_by : {E : Type 0} → (E → ℕ) → Result Counts E → List ℕ → List Float → List ℕ → List ℕ → List Float → List ℕ → List Float → List ℕ → List ℕ → Read (List ℕ)
+mesh_told_by told (Err d) gone p r c v e l o g = refused (told d)
+mesh_told_by told (Ok k) gone p r c v e l o g = value (done_words k (words_change (log_at k.log g)) (listed_edges gone) p r c v e l o)
+
 abbrev pub mesh_told : Ran → List ℕ → List Float → List ℕ → List ℕ → List Float → List ℕ → List Float → List ℕ → List ℕ → Read (List ℕ)
-mesh_told (Err d) gone p r c v e l o g = refused (number_of d)
-mesh_told (Ok k) gone p r c v e l o g = value (done_words k (words_change (log_at k.log g)) (listed_edges gone) p r c v e l o)
+mesh_told = mesh_told_by number_of
 
 -- the words of its log
-abbrev pub log_told : Ran → List ℕ → List ℕ
+abbrev pub log_told : {E : Type 0} → Result Counts E → List ℕ → List ℕ
 log_told (Err d) g = []
 log_told (Ok k) g = take (6 * k.log) g
 
@@ -50,6 +53,9 @@ pub record Tellable (k : Counts) (gone : List ℕ) (lp lr lc lv le ll lo lg logg
   pub entries : 24 * k.log ≤ logged
 
 -- the same of what a call came to; or the number of a refusal is small
+abbrev pub TellingBy : {E : Type 0} → (E → ℕ) → Result Counts E → List ℕ → ℕ → ℕ → ℕ → ℕ → ℕ → ℕ → ℕ → ℕ → ℕ → Type 0
+TellingBy told (Err d) gone lp lr lc lv le ll lo lg logged = told d < 256
+TellingBy told (Ok k) gone lp lr lc lv le ll lo lg logged = Tellable k gone lp lr lc lv le ll lo lg logged
+
 abbrev pub Telling : Ran → List ℕ → ℕ → ℕ → ℕ → ℕ → ℕ → ℕ → ℕ → ℕ → ℕ → Type 0
-Telling (Err d) gone lp lr lc lv le ll lo lg logged = number_of d < 256
-Telling (Ok k) gone lp lr lc lv le ll lo lg logged = Tellable k gone lp lr lc lv le ll lo lg logged
+Telling = TellingBy number_of

@@ -4,11 +4,11 @@ ghost use Rattle.lists.specs.Lists.{pick};
 ghost use Rattle.model.specs.Reads.{refused, value};
 ghost use Rattle.image.specs.Words.{put_words, written};
 ghost use Rattle.mesh_replies.specs.Both.{BothReplied};
-ghost use Rattle.mesh_replies.specs.Told.{listed_edges, done_words, mesh_told, log_told, Tellable, Telling};
+ghost use Rattle.mesh_replies.specs.Told.{listed_edges, done_words, mesh_told_by, log_told, Tellable, TellingBy};
 
 use mesh::Counts;
 use mesh::refusals::Refusal;
-use work::Ran;
+use refusal_numbers::Tells;
 
 // A refusal: every byte of the answer and of the log is 0. (The C interface has its number.)
 pub fn refuse(code: usize, out: &mut [u8], log: &mut [u8]) -> u32
@@ -95,8 +95,8 @@ fn reply_done(
 }
 
 // The reply to what a call that gives a mesh came to. The blocks still hold the listed edges, which the answer leaves out.
-pub fn reply_ran(
-    ran: Ran,
+pub fn reply_ran<E: Tells>(
+    ran: Result<Counts, E>,
     gone: &[usize],
     points: &[f32],
     roots: &[usize],
@@ -109,15 +109,15 @@ pub fn reply_ran(
     out: &mut [u8],
     log: &mut [u8],
 ) -> u32
-    requires { Telling ran gone.now (length points.now) (length roots.now) (length corners.now) (length volumes.now)
+    requires { TellingBy E.told ran gone.now (length points.now) (length roots.now) (length corners.now) (length volumes.now)
         (length ends.now) (length lengths.now) (length outline.now) (length words.now) (length log.old) }
-    ensures { BothReplied (mesh_told ran gone.now points.now roots.now corners.now
+    ensures { BothReplied (mesh_told_by E.told ran gone.now points.now roots.now corners.now
         volumes.now ends.now lengths.now outline.now words.now)
         (log_told ran words.now) (length out.old) (length log.old) result out.new log.new }
 {
     match ran {
         Err(refusal) => {
-            return refuse(refusal.number(), out, log);
+            return refuse(refusal.tell(), out, log);
         }
         Ok(k) => {
             let any = call_frame::logged::changed(k.log, words);

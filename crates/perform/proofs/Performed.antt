@@ -56,10 +56,14 @@ job_given (Crack min) ls L M e = tt
 -- ---- every job
 
 -- where nothing refuses a job, its input may be copied
-pub job_begins : (j : Job) (ls : List ℕ) (G : Given) (R : Rooms) (I : Lent) → 0 ≡ job_refusal j ls (sizes_fit_of G) (mesh_of G) (as_rooms R) → RoomsLent R I → BeginAsked R G I
-job_begins j ls G R I e rooms =
-    begin_asked G R I 0 (job_numbers j) (job_arguments j ls (as_rooms R) (mesh_of G)) (sym (job_checked j ls (sizes_fit_of G) (mesh_of G) (as_rooms R) (sym e)))
-    (job_lent j ls (as_rooms R) (mesh_of G)) rooms refl
+pub job_begins : (j : Job) (ls : List ℕ) (G : Given) (R : Rooms) (I : Lent) (code : ℕ) → code ≡ job_refusal j ls (sizes_fit_of G) (mesh_of G) (as_rooms R) → RoomsLent R I → BeginAsked code R G I
+job_begins j ls G R I code e rooms =
+    record { sized = λ z. (asked z).sized z; triangles = λ z. (asked z).triangles z; rooms = rooms }
+  where
+    asked : code ≡ 0 → BeginAsked code R G I
+    asked z =
+        begin_asked G R I code (job_numbers j) (job_arguments j ls (as_rooms R) (mesh_of G)) (z ∙ sym (job_checked j ls (sizes_fit_of G) (mesh_of G) (as_rooms R) (sym e ∙ z)))
+        (job_lent j ls (as_rooms R) (mesh_of G)) rooms
 
 -- no entries are a log
 nothing_logged : (g : List ℕ) → Logged 0 g

@@ -51,13 +51,13 @@ pub fn begin(
         Begun (job_refusal job list.now (sizes_fit_of G) (mesh_of G) (as_rooms room)) room (mesh_of G) (mesh_behind
         (sizes G) points roots corners volumes ends lengths outline) (refusal_in result) }
 {
-    checks::judge(
+    let fault = checks::judge(
         job, list, room, in_points, in_roots, in_corners, in_volumes, in_ends, in_lengths,
         in_outline,
-    )?;
+    );
     call_frame::frame::begin(
-        room, in_points, in_roots, in_corners, in_volumes, in_ends, in_lengths, in_outline, points,
-        roots, corners, volumes, ends, lengths, outline,
+        fault, room, in_points, in_roots, in_corners, in_volumes, in_ends, in_lengths, in_outline,
+        points, roots, corners, volumes, ends, lengths, outline,
     )
 }
 

@@ -106,7 +106,7 @@ module _ (L : Lent) (p : List Float) (r c : List ℕ) (v : List Float) (e : List
   answered_listable (refused n) (Ok a) A few ok = let z : ◌≡◌ {A = ℕ} 0 1 = cc A.answer in absurd (omega arith)
   answered_listable (done M log changed) (Err d) A few ok = let z : ◌≡◌ {A = ℕ} 0 1 = cc A.answer in absurd (omega arith)
   answered_listable (done M log changed) (Ok a) A few ok =
-      subst (λ (x : Answer). Listable (Ok x) c v e l (length g)) (sym (answer_is M log changed a A.answer)) (done_countable M log A.blocks few (ok M log changed refl))
+      subst (λ (x : Answer). Listable {E = Refusal} (Ok x) c v e l (length g)) (sym (answer_is M log changed a A.answer)) (done_countable M log A.blocks few (ok M log changed refl))
 
   -- and its text is what is printed for the outcome
   pub answered_text : (f : Bool) (o : Outcome) (a : Result Answer Refusal) → Answered o L a p r c v e l b g → ((M : Mesh) (log : List Entry) (changed : Bool) → o ≡ done M log changed → indices_fit_of M ≡ true) → text_of f a c v e l g ≡ printed f o

@@ -6,16 +6,10 @@ use Rattle.listing.proofs.Lengths.{refused_few}
 use Rattle.answer_listing.proofs.Lengths.{listing_few}
 use Rattle.answer_listing.proofs.list_answer.Goals as goal
 
-pub count_pieces-found-requires : goal.count_pieces-found-requires
-count_pieces-found-requires c = (done_listable _ _ _ _ _ _ _ c.in-Ok.is c.requires).0
-
-pub write_listing-requires : goal.write_listing-requires
-write_listing-requires c = (done_listable _ _ _ _ _ _ _ c.in-Ok.is c.requires).1
-
 pub returns-in-Err : goal.returns-in-Err
-returns-in-Err c = refused_text _ _ _ _ _ _ _ _ _ _ _ _ c.in-Err.is c.number.ensures (record { wrote = c.write_refused.ensures; enough = refused_few _ (search rules) })
+returns-in-Err g c = refused_text g.E.Tells.told _ _ _ _ _ _ _ _ _ _ _ _ c.in-Err.is c.tell.ensures (record { wrote = c.write_refused.ensures; enough = refused_few _ (search rules) })
 
 pub returns-in-Ok : goal.returns-in-Ok
-returns-in-Ok c =
-    let H = done_listable _ _ _ _ _ _ _ c.in-Ok.is c.requires in
-    done_text _ _ _ _ _ _ _ _ _ _ _ _ c.in-Ok.is c.count_pieces-found.ensures (record { wrote = c.write_listing.ensures; enough = listing_few _ _ _ _ _ H.2 (λ j. omega (arith, c.shared_slice_known-5-1.given j)) (omega (arith, H.0.few_particles)) (omega (arith, c.count_pieces-found.type_inv)) })
+returns-in-Ok g c =
+    let H = done_listable g.E.Tells.told _ _ _ _ _ _ _ c.in-Ok.is c.requires in
+    done_text g.E.Tells.told _ _ _ _ _ _ _ _ _ _ _ _ c.in-Ok.is c.count_pieces-found.ensures (record { wrote = c.write_listing.ensures; enough = listing_few _ _ _ _ _ H.2 (λ j. omega (arith, c.shared_slice_known-5-1.given j)) (omega (arith, H.0.few_particles)) (omega (arith, c.count_pieces-found.type_inv)) })

@@ -1,21 +1,14 @@
 -- `perform::calls::begin` meets its contract: the checks, and the copy. Assumes nothing.
-use mathlib.Core.Path.{◌∙◌}
-use Rattle.mesh.proofs.Refused.{refusal_handed, handed_some}
 use Rattle.mesh.specs.Given.{given}
-use Rattle.call_frame.proofs.Begun.{begun_by, begun_refused}
+use Rattle.call_frame.proofs.Begun.{begun_by}
 use Rattle.perform.proofs.Performed.{job_begins}
 use Rattle.perform.proofs.calls.begin.Goals as goal
-
-pub returns-in_err-judge : goal.returns-in_err-judge
-returns-in_err-judge c =
-    let h = c.from_residual.ensures.1 in
-    begun_by (begun_refused _ _ _ _ (handed_some _ _ h)) (refusal_handed _ _ h ∙ c.in_err-judge.ensures)
 
 pub begin-requires : goal.begin-requires
 begin-requires c =
     let A = c.args in
     let G = given A.in_points.now A.in_roots.now A.in_corners.now A.in_volumes.now A.in_ends.now A.in_lengths.now A.in_outline.now in
-    job_begins A.job A.list.now G A.room _ c.in_ok-judge.ensures c.requires
+    job_begins A.job A.list.now G A.room _ _ c.judge-fault.ensures c.requires
 
 pub shape_of-points : goal.shape_of-points
 shape_of-points c = c.begin.auto.points
@@ -39,4 +32,4 @@ pub shape_of-outline : goal.shape_of-outline
 shape_of-outline c = c.begin.auto.outline
 
 pub returns : goal.returns
-returns c = begun_by c.begin.ensures c.in_ok-judge.ensures
+returns c = begun_by c.begin.ensures c.judge-fault.ensures
