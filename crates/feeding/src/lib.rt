@@ -11,7 +11,7 @@ const SIZE: usize = 17301;
 // How many bytes it keeps: one more than the longest sheet has.
 const MOST: usize = 17293;
 
-// What a reader answers before anything is done: 4 where there is none, 10 where it is closed, else 0.
+// What a reader answers before anything is done: 4 where there is none, 10 where it is closed, else 0. (A number, here and below, and no `Result`: C is told it as it is.)
 fn standing_of(reader: &[u8]) -> u32
     ensures { result ≡ standing reader.now }
 {
@@ -51,7 +51,10 @@ fn copy_bytes(src: &[u8], dst: &mut [u8])
     requires { length src.now ≡ length dst.old }
     ensures { dst.new ≡ src.now }
 {
-    dst.copy_from_slice(src);
+    // (The library's copy would need a `memmove` from outside the archive.)
+    for i in 0..src.len() {
+        dst[i] = src[i];
+    }
 }
 
 // Puts as much of a part as fits behind the bytes that a reader keeps.
