@@ -21,8 +21,16 @@ refusal_tells (Err d) (Err f) e = ap Err (number_tells d f e)
 
 -- two writings of the same columns into as many bytes
 pub write_agree :
+    (k : Handed) (before after after' : List ℕ) (r r' : ℕ) → ((i : ℕ) → get_or after i 0 < 256) → ((i : ℕ) → get_or after' i 0 < 256)
+    → WriteDone k before after r → WriteDone k before after' r' → (r ≡ r') × (after ≡ after')
+write_agree k before after after' r r' small small' f h =
+    let z : r ≡ r' = f.answer ∙ sym h.answer in
+    (z, bits_of_inj after after' small small' (f.bits ∙ (ap (λ (x : ℕ). padded (8 * length before) 0 (put_of x (sheet_from (columns_from k)))) z ∙ sym h.bits)))
+
+-- the same of what `write` answers
+pub write_answers_agree :
     (k : Handed) (before after after' : List ℕ) (r r' : Result (Unit {0}) Refusal) → ((i : ℕ) → get_or after i 0 < 256) → ((i : ℕ) → get_or after' i 0 < 256)
     → WriteDone k before after (refusal_in r) → WriteDone k before after' (refusal_in r') → (r ≡ r') × (after ≡ after')
-write_agree k before after after' r r' small small' f h =
-    let z : refusal_in r ≡ refusal_in r' = f.answer ∙ sym h.answer in
-    (refusal_tells r r' z, bits_of_inj after after' small small' (f.bits ∙ (ap (λ (x : ℕ). padded (8 * length before) 0 (put_of x (sheet_from (columns_from k)))) z ∙ sym h.bits)))
+write_answers_agree k before after after' r r' small small' f h =
+    let one = write_agree k before after after' (refusal_in r) (refusal_in r') small small' f h in
+    (refusal_tells r r' one.0, one.1)
