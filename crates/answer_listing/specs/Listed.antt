@@ -40,5 +40,6 @@ abbrev pub text_of_by : {E : Type 0} → (E → ℕ) → Bool → Result Answer 
 text_of_by told replaced (Err d) c v e l g = refused_bytes (told d)
 text_of_by told replaced (Ok a) c v e l g = listing_bytes replaced (log_at a.counts.log g) a.counts.particles (pieces_in (triangles_at a.counts.triangles c v) (edges_at a.counts.edges e l))
 
+-- the same of an answer whose refusal is a `Refusal`
 abbrev pub text_of : Bool → Result Answer Refusal → List ℕ → List Float → List ℕ → List Float → List ℕ → List ℕ
 text_of = text_of_by number_of

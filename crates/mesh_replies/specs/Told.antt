@@ -26,6 +26,7 @@ abbrev pub mesh_told_by : {E : Type 0} → (E → ℕ) → Result Counts E → L
 mesh_told_by told (Err d) gone p r c v e l o g = refused (told d)
 mesh_told_by told (Ok k) gone p r c v e l o g = value (done_words k (words_change (log_at k.log g)) (listed_edges gone) p r c v e l o)
 
+-- the same of a worker, whose refusal is a `Refusal`
 abbrev pub mesh_told : Ran → List ℕ → List Float → List ℕ → List ℕ → List Float → List ℕ → List Float → List ℕ → List ℕ → Read (List ℕ)
 mesh_told = mesh_told_by number_of
 
@@ -52,10 +53,11 @@ pub record Tellable (k : Counts) (gone : List ℕ) (lp lr lc lv le ll lo lg logg
   pub words : 6 * k.log ≤ lg
   pub entries : 24 * k.log ≤ logged
 
--- the same of what a call came to; or the number of a refusal is small
+-- the same of what a call came to; or the number of a refusal, which `told` tells, is small
 abbrev pub TellingBy : {E : Type 0} → (E → ℕ) → Result Counts E → List ℕ → ℕ → ℕ → ℕ → ℕ → ℕ → ℕ → ℕ → ℕ → ℕ → Type 0
 TellingBy told (Err d) gone lp lr lc lv le ll lo lg logged = told d < 256
 TellingBy told (Ok k) gone lp lr lc lv le ll lo lg logged = Tellable k gone lp lr lc lv le ll lo lg logged
 
+-- the same of a worker
 abbrev pub Telling : Ran → List ℕ → ℕ → ℕ → ℕ → ℕ → ℕ → ℕ → ℕ → ℕ → ℕ → Type 0
 Telling = TellingBy number_of
