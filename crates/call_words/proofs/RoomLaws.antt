@@ -1,13 +1,16 @@
 -- Laws of rooms: those of four words, and the refusal of other bytes. Assumes nothing.
 use Prim.Native.Nat.{ℕ, ◌/◌, min}
 use native.Mathlib.Omega.{arith}
-use mathlib.Core.Path.{◌≡◌, sym, ap, subst, ◌∙◌}
+use mathlib.Core.Path.{◌≡◌, refl, sym, ap, subst, ◌∙◌}
 use mathlib.Core.Bool.{Bool, true, false}
 use mathlib.Core.List.{List}
 use borrow.Author.Tests.{ne_eqb}
 use Rattle.lists.specs.Lists.{pick}
 use Rattle.mesh.specs.declared.Rooms.{Rooms}
 use Rattle.image.specs.Words.{word_at_of}
+use Rattle.mesh.specs.Refused.{number_of}
+use Rattle.mesh.specs.declared.refusals.Refusal.{Refusal}
+use Rattle.mesh.specs.declared.refusals.Refusal.TheVariants.{Size, Number, Name, Argument, Particles, Edges, Boundary, Entries, Sheet, Closed, Whole, Straps}
 use Rattle.call_words.specs.Rooms.{Limited, rooms_given, rooms_too}
 
 pub rooms_made : (s : List ℕ) (logged a b c d a' b' c' d' e : ℕ) → a' ≡ word_at_of s 0 → b' ≡ word_at_of s 1 → c' ≡ word_at_of s 2 → d' ≡ word_at_of s 3 → a ≡ min 1024 a' → b ≡ min 1024 b' → c ≡ min 2048 c' → d ≡ min 2048 d' → e ≡ min 4096 (logged / 24)
@@ -36,3 +39,18 @@ rooms_none code b e z = sym (ap (rooms_too code) e ∙ ap (λ (n : ℕ). rooms_t
 
 pub rooms_late : (code : ℕ) (b : Bool) (r : ℕ) → b ≡ false → (code ≡ 0 → ⊥) → r ≡ min code 4 → r ≡ rooms_too code b
 rooms_late code b r e n q = q ∙ sym (ap (rooms_too code) e ∙ ap (λ (z : Bool). pick z 4 (min code 4)) (ne_eqb code 0 n))
+
+-- a refusal behind the first three is 4 or a later one
+pub late_number : (e : Refusal) → (e ≡ Size → ⊥) → (e ≡ Number → ⊥) → (e ≡ Name → ⊥) → 4 ≡ min (number_of e) 4
+late_number Size s n m = absurd (s refl)
+late_number Number s n m = absurd (n refl)
+late_number Name s n m = absurd (m refl)
+late_number Argument s n m = refl
+late_number Particles s n m = refl
+late_number Edges s n m = refl
+late_number Boundary s n m = refl
+late_number Entries s n m = refl
+late_number Sheet s n m = refl
+late_number Closed s n m = refl
+late_number Whole s n m = refl
+late_number Straps s n m = refl
